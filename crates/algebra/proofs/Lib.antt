@@ -1,0 +1,4 @@
+pub mod Lines
+pub mod Fold
+pub mod Pack
+pub mod Three
