@@ -8,7 +8,7 @@ use lib.Dec.{eqb}
 use lib.ListN.{getD}
 use Rattle.octets.specs.Lists.{view}
 use Rattle.octets.specs.Xor.{_⊕_}
-use Rattle.field.specs.Gf.{_⊗_}
+use Rattle.field.specs.Gf.{_⊗_, lift}
 
 -- ---- matrices in lists
 
@@ -50,3 +50,7 @@ only s f k = cond (eqb k s) (f k) 0
 -- element i of a list of bytes that hold two elements of F each, the lower half first
 unfoldable pub half : List ℕ → ℕ → ℕ
 half l i = getD l (i / 2) 0 / 2 ^ (4 * (i % 2)) % 2 ^ 4
+
+-- element i of it, as an element of K
+unfoldable pub lifted : List ℕ → ℕ → ℕ
+lifted l i = lift (half l i)
