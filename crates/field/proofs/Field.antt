@@ -64,6 +64,17 @@ unfolding _⊗_
 pub ⊗-one-l : (a : ℕ) → a < 256 → _⊗_ 1 a ≡ a
 ⊗-one-l a h = ⊗-comm 1 a ∙ ⊗-one-r a h
 
+-- ξ, the polynomial's root, is 2
+root-one : timesRoot 7 0x1b 1 ≡ 2
+unfolding timesRoot _⊕_
+root-one = refl
+
+pub times-root : (a : ℕ) → timesRoot 7 0x1b a ≡ 2 ⊗ a
+unfolding _⊗_
+times-root a =
+    sym (product.root-mod 7 0x1b a) ∙ ap (timesRoot 7 0x1b) (sym (product.mul-one-r 7 0x1b a))
+    ∙ sym (product.mul-root-r 7 0x1b k-small k-commutes a 1) ∙ ap (mulIn 7 0x1b a) root-one ∙ ⊗-comm a 2
+
 -- ---- F
 
 f-commutes : T (product.commutes 3 0x3)

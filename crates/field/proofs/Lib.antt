@@ -4,4 +4,6 @@ pub mod Field
 pub mod Steps
 pub mod Inverse
 pub mod Sum
+pub mod Octets
+pub mod Morphism
 pub mod Loops

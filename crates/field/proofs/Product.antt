@@ -147,7 +147,7 @@ module _ (k low : ℕ) (small : low < 2 ^ suc k) (test : T (commutes k low)) whe
       ap (λ (x : ℕ). shiftAdd k low (suc k) x b) (mod-eq-of-lt (root-lt k low small a) ∙ sym (root-mod k low a))
       ∙ shiftAdd-root k low (suc k) (a % 2 ^ suc k) b
 
-  mul-root-r : (a b : ℕ) → mulIn k low a (timesRoot k low b) ≡ timesRoot k low (mulIn k low a b)
+  pub mul-root-r : (a b : ℕ) → mulIn k low a (timesRoot k low b) ≡ timesRoot k low (mulIn k low a b)
   mul-root-r a b = mul-comm' a (timesRoot k low b) ∙ mul-root-l b a ∙ ap (timesRoot k low) (mul-comm' b a)
 
   pub mul-assoc' : (a b c : ℕ) → mulIn k low (mulIn k low a b) c ≡ mulIn k low a (mulIn k low b c)

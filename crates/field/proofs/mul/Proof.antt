@@ -9,8 +9,6 @@ use Rattle.field.specs.Gf.{shiftAdd, _⊗_}
 use Rattle.field.proofs.Steps.{step, by-mask, mask-small, rooted, rooted-lt, start, finish}
 use Rattle.field.proofs.mul.Statement.{statement}
 use Rattle.field.proofs.mul.Tie as tie
-use Rattle.field.proofs.mul.Reads as reads
-use Rattle.field.proofs.mul.Lts as lts
 
 abbrev Inv-loop : tie.InvT-loop
 Inv-loop a b r₀ x₀ y₀ i₀ r x y i = (i ≤ 8) × (x < 256) × (r ⊕ shiftAdd 7 27 (8 - i) x y ≡ _⊗_ a b)
