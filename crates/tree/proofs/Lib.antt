@@ -1,0 +1,11 @@
+pub mod Each
+pub mod Xor
+pub mod Lengths
+pub mod Laws
+pub mod Places
+pub mod Bounds
+pub mod Depth
+pub mod Ext
+pub mod Halves
+pub mod Counts
+pub mod Arrays

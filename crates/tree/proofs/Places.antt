@@ -1,0 +1,46 @@
+-- The law of the path, seed by seed: of the lists, and of the bytes in the buffers. Assumes nothing.
+use mathlib.Core.Path.{_≡_, refl, sym, ap, _∙_}
+use mathlib.Core.Logic.{_≢_}
+use mathlib.Core.List.{List, []}
+use Prim.Native.Nat.{ℕ, suc, _*_, _^_, _<_}
+use native.Mathlib.Omega.{arith}
+use lib.ListN.{length, getD, set, length-set}
+use lib.Seq.{getD-set-other, getD-set-same}
+use Rattle.octets.specs.Lists.{flat, part, zero16}
+use Rattle.tree.specs.Tree.{rebuildOf, treeOf, treePathOf, Keeps16}
+use Rattle.tree.proofs.Each.{Each, All16, each-set, each-at, part-flat}
+use Rattle.tree.proofs.Lengths.{all-tree, length-tree}
+use Rattle.tree.proofs.Laws.{rebuild-tree-all}
+
+module _ (f : ℕ → List ℕ → List ℕ) (keeps : Keeps16 f) (d : ℕ) (r δ : List ℕ) (hr : length r ≡ 16) (hd : length δ ≡ 16) where
+  pub leaf-16 : (k : ℕ) → k < 2 ^ suc d → length (getD (treeOf f d r δ) k []) ≡ 16
+  leaf-16 k h = each-at (λ s. length s ≡ 16) (treeOf f d r δ) k (all-tree f keeps d r δ hr hd) (omega (arith, length-tree f d r δ))
+
+  module _ (i : ℕ) (hidden : i < 2 ^ suc d) where
+    -- every leaf but the hidden one is the signer's, at its place
+    pub leaf-same : (k : ℕ) → k ≢ i → getD (rebuildOf f (suc d) 0 i (flat (treePathOf f d i r δ))) k [] ≡ getD (treeOf f d r δ) k []
+    leaf-same k ne =
+        ap (λ (l : List (List ℕ)). getD l k []) (rebuild-tree-all f keeps d i r δ hr hd hidden) ∙ getD-set-other (treeOf f d r δ) i k zero16 [] ne
+
+    -- and the hidden one is zeros
+    pub leaf-hidden : getD (rebuildOf f (suc d) 0 i (flat (treePathOf f d i r δ))) i [] ≡ zero16
+    leaf-hidden =
+        ap (λ (l : List (List ℕ)). getD l i []) (rebuild-tree-all f keeps d i r δ hr hd hidden)
+        ∙ getD-set-same (treeOf f d r δ) i zero16 [] (omega (arith, length-tree f d r δ))
+
+    -- the same of the bytes
+    rebuilt-at : (k : ℕ) → k < 2 ^ suc d
+        → part (16 * k) 16 (flat (rebuildOf f (suc d) 0 i (flat (treePathOf f d i r δ)))) ≡ getD (rebuildOf f (suc d) 0 i (flat (treePathOf f d i r δ))) k []
+    rebuilt-at k h =
+        let t = treeOf f d r δ in
+        rw (rebuild-tree-all f keeps d i r δ hr hd hidden)
+        (part-flat (set t i zero16) k (each-set (λ s. length s ≡ 16) t i zero16 refl (all-tree f keeps d r δ hr hd))
+        (simp length-set (omega (arith, length-tree f d r δ))))
+
+    pub leaf-rebuilt : (k : ℕ) → k < 2 ^ suc d → k ≢ i
+        → part (16 * k) 16 (flat (rebuildOf f (suc d) 0 i (flat (treePathOf f d i r δ)))) ≡ part (16 * k) 16 (flat (treeOf f d r δ))
+    leaf-rebuilt k h ne =
+        rebuilt-at k h ∙ leaf-same k ne ∙ sym (part-flat (treeOf f d r δ) k (all-tree f keeps d r δ hr hd) (omega (arith, length-tree f d r δ)))
+
+    pub hidden-zero : part (16 * i) 16 (flat (rebuildOf f (suc d) 0 i (flat (treePathOf f d i r δ)))) ≡ zero16
+    hidden-zero = rebuilt-at i hidden ∙ leaf-hidden
