@@ -5,7 +5,7 @@ use mathlib.Core.Logic.{⊎-elim}
 use mathlib.Core.Bool.{Bool, true, false, cond}
 use mathlib.Core.List.{List, [], _∷_, _++_}
 use Prim.Native.Nat.{ℕ, zero, suc, _+_, _-_, _*_, _^_, _<_, _≤_}
-use native.Mathlib.Nat.{pow-suc, eq-or-lt-of-le}
+use native.Mathlib.Nat.{add-zero, pow-suc, eq-or-lt-of-le}
 use native.Mathlib.Omega.{arith}
 use lib.Pow.{pow-mono}
 use borrow.Author.Tests.{eq-eqb, ne-eqb}
@@ -13,6 +13,7 @@ use Rattle.octets.specs.Xor.{xorB}
 use Rattle.tree.specs.Tree.{leavesOf, leftOf, rightOf}
 use Rattle.tree.specs.Layers.{put, loop, row}
 use Rattle.tree.proofs.Depth.{pow-more}
+use Rattle.tree.proofs.Sibling.{pow-twice, pow-next}
 
 -- ---- a place is written
 
@@ -25,11 +26,31 @@ module _ {A : Type 0} (k : ℕ) (s : A) (node : ℕ → A) where
   unfolding put
   put-other m h = ap (λ (t : Bool). cond t s (node m)) (ne-eqb m k h)
 
+-- a node's two children are written
+module _ {A : Type 0} (k : ℕ) (x y : A) (node : ℕ → A) where
+  pub pair-even : put (2 * k + 1) y (put (2 * k) x node) (2 * k + 0) ≡ x
+  pair-even =
+      put-other (2 * k + 1) y (put (2 * k) x node) (2 * k + 0) (λ e. omega arith)
+      ∙ ap (put (2 * k) x node) (add-zero (2 * k))
+      ∙ put-same (2 * k) x node
+
+  pub pair-odd : put (2 * k + 1) y (put (2 * k) x node) (2 * k + 1) ≡ y
+  pair-odd = put-same (2 * k + 1) y (put (2 * k) x node)
+
+  pub pair-other : (m : ℕ) → (m ≡ 2 * k → ⊥) → (m ≡ 2 * k + 1 → ⊥) → put (2 * k + 1) y (put (2 * k) x node) m ≡ node m
+  pair-other m p q = put-other (2 * k + 1) y (put (2 * k) x node) m q ∙ put-other (2 * k) x node m p
+
 -- ---- a row is read
 
 pub row-append : (a n m : ℕ) (node : ℕ → List ℕ) → row a (n + m) node ≡ row a n node ++ row (a + n) m node
 unfolding row
-row-append a zero m node = ap₂ (λ (x y : ℕ). row x y node) (omega arith) (omega arith)
+row-append a zero m node = ap₂ (λ (x y : ℕ). row x y node) here none
+  where
+    here : a ≡ a + 0
+    here = omega arith
+
+    none : 0 + m ≡ m
+    none = omega arith
 row-append a (suc n) m node =
     ap (λ (x : ℕ). row a x node) more
     ∙ ap (λ (l : List (List ℕ)). node a ∷ l) (row-append (a + 1) n m node ∙ ap (λ (x : ℕ). row (a + 1) n node ++ row x m node) (omega arith))
@@ -41,70 +62,50 @@ row-append a (suc n) m node =
 pub row-halves : (k d : ℕ) (node : ℕ → List ℕ)
     → row (k * 2 ^ suc d) (2 ^ suc d) node ≡ row (2 * k * 2 ^ d) (2 ^ d) node ++ row ((2 * k + 1) * 2 ^ d) (2 ^ d) node
 row-halves k d node =
-    let n : 2 ^ suc d ≡ 2 ^ d * 2 = pow-suc 2 d in
-    ap₂ (λ (x y : ℕ). row x y node) first both ∙ row-append (2 * k * 2 ^ d) (2 ^ d) (2 ^ d) node
-    ∙ ap (λ (x : ℕ). row (2 * k * 2 ^ d) (2 ^ d) node ++ row x (2 ^ d) node) second
+    ap₂ (λ (x y : ℕ). row x y node) (pow-twice k d) both ∙ row-append (2 * k * 2 ^ d) (2 ^ d) (2 ^ d) node
+    ∙ ap (λ (x : ℕ). row (2 * k * 2 ^ d) (2 ^ d) node ++ row x (2 ^ d) node) (sym (pow-next k d))
   where
-    first : k * 2 ^ suc d ≡ 2 * k * 2 ^ d
-    first = omega (arith, pow-suc 2 d)
-
     both : 2 ^ suc d ≡ 2 ^ d + 2 ^ d
     both = omega (arith, pow-suc 2 d)
 
-    second : 2 * k * 2 ^ d + 2 ^ d ≡ (2 * k + 1) * 2 ^ d
-    second = omega arith
-
 -- ---- a layer is derived from the one above it
 
--- what a turn of the inner loop does at node k: it writes node[2k] and node[2k+1] and nothing else
-pub record Turn {A : Type 0} (L R : A → A → A) (body : ℕ → (ℕ → A) → ℕ → A) : Type 0 where
-  pub even : (k : ℕ) (node : ℕ → A) → body k node (2 * k) ≡ L (node k) (node (2 * k))
-  pub odd : (k : ℕ) (node : ℕ → A) → body k node (2 * k + 1) ≡ R (node k) (node (2 * k + 1))
-  pub other : (k : ℕ) (node : ℕ → A) (m : ℕ) → (m ≡ 2 * k → ⊥) → (m ≡ 2 * k + 1 → ⊥) → body k node m ≡ node m
+-- what a turn of the inner loop does at node k: it writes its children, node[2k] and node[2k+1], and nothing else
+pub record Turn {A : Type 0} (child : ℕ → A → A → A) (body : ℕ → (ℕ → A) → ℕ → A) : Type 0 where
+  pub here : (k c : ℕ) (node : ℕ → A) → c < 2 → body k node (2 * k + c) ≡ child c (node k) (node (2 * k + c))
+  pub other : (k m : ℕ) (node : ℕ → A) → (m ≡ 2 * k → ⊥) → (m ≡ 2 * k + 1 → ⊥) → body k node m ≡ node m
 
-module _ {A : Type 0} (L R : A → A → A) (body : ℕ → (ℕ → A) → ℕ → A) (turn : Turn L R body) where
-  inner-below : (a n m : ℕ) (node : ℕ → A) → m < 2 * a → loop a n body node m ≡ node m
+module _ {A : Type 0} (child : ℕ → A → A → A) (body : ℕ → (ℕ → A) → ℕ → A) (turn : Turn child body) where
+  inner-before : (a n m : ℕ) (node : ℕ → A) → m < 2 * a → loop a n body node m ≡ node m
   unfolding loop
-  inner-below a zero m node h = refl
-  inner-below a (suc n) m node h =
-      inner-below (a + 1) n m (body a node) (omega arith) ∙ turn .other a node m (λ e. omega arith) (λ e. omega arith)
+  inner-before a zero m node h = refl
+  inner-before a (suc n) m node h =
+      inner-before (a + 1) n m (body a node) (omega arith) ∙ turn .other a m node (λ e. omega arith) (λ e. omega arith)
 
-  inner-above : (a n m : ℕ) (node : ℕ → A) → 2 * (a + n) ≤ m → loop a n body node m ≡ node m
+  inner-after : (a n m : ℕ) (node : ℕ → A) → 2 * (a + n) ≤ m → loop a n body node m ≡ node m
   unfolding loop
-  inner-above a zero m node h = refl
-  inner-above a (suc n) m node h =
-      inner-above (a + 1) n m (body a node) (omega arith) ∙ turn .other a node m (λ e. omega arith) (λ e. omega arith)
+  inner-after a zero m node h = refl
+  inner-after a (suc n) m node h =
+      inner-after (a + 1) n m (body a node) (omega arith) ∙ turn .other a m node (λ e. omega arith) (λ e. omega arith)
 
-  -- what is read has not been written yet
-  inner-even : (a n k : ℕ) (node : ℕ → A) → n ≤ a → a ≤ k → k < a + n → loop a n body node (2 * k) ≡ L (node k) (node (2 * k))
+  -- n ≤ a: no place that is read has been written before
+  inner-child : (a n k c : ℕ) (node : ℕ → A) → c < 2 → n ≤ a → a ≤ k → k < a + n
+      → loop a n body node (2 * k + c) ≡ child c (node k) (node (2 * k + c))
   unfolding loop
-  inner-even a zero k node h lo hi = absurd (omega arith)
-  inner-even a (suc n) k node h lo hi =
+  inner-child a zero k c node hc h lo hi = absurd (omega arith)
+  inner-child a (suc n) k c node hc h lo hi =
       ⊎-elim
       (λ (e : a ≡ k).
-      subst (λ (x : ℕ). loop (a + 1) n body (body a node) (2 * x) ≡ L (node x) (node (2 * x))) e
-      (inner-below (a + 1) n (2 * a) (body a node) (omega arith) ∙ turn .even a node))
+      subst (λ (x : ℕ). loop (a + 1) n body (body a node) (2 * x + c) ≡ child c (node x) (node (2 * x + c))) e
+      (inner-before (a + 1) n (2 * a + c) (body a node) (omega arith) ∙ turn .here a c node hc))
       (λ (e : a < k).
-      inner-even (a + 1) n k (body a node) (omega arith) (omega arith) (omega arith)
-      ∙ ap₂ L (turn .other a node k (λ q. omega arith) (λ q. omega arith)) (turn .other a node (2 * k) (λ q. omega arith) (λ q. omega arith)))
-      (eq-or-lt-of-le {n = a} {m = k} lo)
-
-  inner-odd : (a n k : ℕ) (node : ℕ → A) → n ≤ a → a ≤ k → k < a + n → loop a n body node (2 * k + 1) ≡ R (node k) (node (2 * k + 1))
-  unfolding loop
-  inner-odd a zero k node h lo hi = absurd (omega arith)
-  inner-odd a (suc n) k node h lo hi =
-      ⊎-elim
-      (λ (e : a ≡ k).
-      subst (λ (x : ℕ). loop (a + 1) n body (body a node) (2 * x + 1) ≡ R (node x) (node (2 * x + 1))) e
-      (inner-below (a + 1) n (2 * a + 1) (body a node) (omega arith) ∙ turn .odd a node))
-      (λ (e : a < k).
-      inner-odd (a + 1) n k (body a node) (omega arith) (omega arith) (omega arith)
-      ∙ ap₂ R (turn .other a node k (λ q. omega arith) (λ q. omega arith)) (turn .other a node (2 * k + 1) (λ q. omega arith) (λ q. omega arith)))
+      inner-child (a + 1) n k c (body a node) hc (omega arith) (omega arith) (omega arith)
+      ∙ ap₂ (child c) (turn .other a k node (λ q. omega arith) (λ q. omega arith)) (turn .other a (2 * k + c) node (λ q. omega arith) (λ q. omega arith)))
       (eq-or-lt-of-le {n = a} {m = k} lo)
 
 -- ---- layer after layer
 
-module _ {A : Type 0} (L R : ℕ → A → A → A) (body : ℕ → ℕ → (ℕ → A) → ℕ → A) (turn : (j : ℕ) → Turn (L j) (R j) (body j)) where
+module _ {A : Type 0} (child : ℕ → ℕ → A → A → A) (body : ℕ → ℕ → (ℕ → A) → ℕ → A) (turn : (j : ℕ) → Turn (child j) (body j)) where
   abbrev layers : ℕ → ℕ → (ℕ → A) → ℕ → A
   layers j n node = loop j n (λ j. loop (2 ^ j) (2 ^ j) (body j)) node
 
@@ -114,4 +115,50 @@ module _ {A : Type 0} (L R : ℕ → A → A → A) (body : ℕ → ℕ → (ℕ
   layers-above j zero m node h = refl
   layers-above j (suc n) m node h =
       layers-above (j + 1) n m (loop (2 ^ j) (2 ^ j) (body j) node) (omega (arith, pow-more j))
-      ∙ inner-below (L j) (R j) (body j) (turn j) (2 ^ j) (2 ^ j) m node h
+      ∙ inner-before (child j) (body j) (turn j) (2 ^ j) (2 ^ j) m node h
+
+  first-child : (j n k c : ℕ) (node : ℕ → A) → c < 2 → 2 ^ j ≤ k → k < 2 * 2 ^ j
+      → layers j (suc n) node (2 * k + c) ≡ child j c (layers j (suc n) node k) (node (2 * k + c))
+  unfolding loop
+  first-child j n k c node hc lo hi =
+      layers-above (j + 1) n (2 * k + c) (loop (2 ^ j) (2 ^ j) (body j) node) (omega (arith, pow-more j))
+      ∙ inner-child (child j) (body j) (turn j) (2 ^ j) (2 ^ j) k c node hc (omega arith) lo (omega arith)
+      ∙ ap (λ (x : A). child j c x (node (2 * k + c))) (sym (layers-above j (suc n) k node hi))
+
+  -- each node of layer q has given its children
+  pub layers-child : (j n q k c : ℕ) (node : ℕ → A) → c < 2 → j ≤ q → q < j + n → 2 ^ q ≤ k → k < 2 * 2 ^ q
+      → layers j n node (2 * k + c) ≡ child q c (layers j n node k) (node (2 * k + c))
+  unfolding loop
+  layers-child j zero q k c node hc hq hn lo hi = absurd (omega arith)
+  layers-child j (suc n) q k c node hc hq hn lo hi =
+      ⊎-elim
+      (λ (e : j ≡ q).
+      subst (λ (x : ℕ). layers j (suc n) node (2 * k + c) ≡ child x c (layers j (suc n) node k) (node (2 * k + c))) e
+      (first-child j n k c node hc (subst (λ (x : ℕ). 2 ^ x ≤ k) (sym e) lo) (subst (λ (x : ℕ). k < 2 * 2 ^ x) (sym e) hi)))
+      (λ (e : j < q).
+      layers-child (j + 1) n q k c (loop (2 ^ j) (2 ^ j) (body j) node) hc (omega arith) (omega arith) lo hi
+      ∙ ap (child q c (layers j (suc n) node k))
+      (inner-after (child j) (body j) (turn j) (2 ^ j) (2 ^ j) (2 * k + c) node (omega (arith, pow-more j, pow-mono {i = j + 1} {j = q} (omega arith)))))
+      (eq-or-lt-of-le {n = j} {m = q} hq)
+
+-- ---- the leaves below a node
+
+-- Has k s: node[k] is s. Each node of the layers from 1 up to, not including, D has given its children
+pub record Grown (f : ℕ → List ℕ → List ℕ) (D : ℕ) (Has : ℕ → List ℕ → Type 0) : Type 0 where
+  pub left : (j k : ℕ) (s : List ℕ) → 0 < j → j < D → 2 ^ j ≤ k → k < 2 * 2 ^ j → Has k s → Has (2 * k) (f j s)
+  pub right : (j k : ℕ) (s : List ℕ) → 0 < j → j < D → 2 ^ j ≤ k → k < 2 * 2 ^ j → Has k s → Has (2 * k + 1) (xorB (f j s) s)
+
+module _ (f : ℕ → List ℕ → List ℕ) (D : ℕ) (Has : ℕ → List ℕ → Type 0) (grown : Grown f D Has) (read : ℕ → List ℕ)
+    (reads : (k : ℕ) (s : List ℕ) → Has k s → read k ≡ s) where
+  pub row-leaves : (d j k : ℕ) (s : List ℕ) → 0 < j → j + d ≡ D → 2 ^ j ≤ k → k < 2 * 2 ^ j → Has k s → row (k * 2 ^ d) (2 ^ d) read ≡ leavesOf f d j s
+  unfolding row leavesOf
+  row-leaves zero j k s pos e lo hi h =
+      ap (λ (x : List ℕ). x ∷ []) (ap read one ∙ reads k s h)
+    where
+      one : k * 1 ≡ k
+      one = omega arith
+  row-leaves (suc d) j k s pos e lo hi h =
+      row-halves k d read
+      ∙ ap₂ _++_
+      (row-leaves d (j + 1) (2 * k) (leftOf f j s) (omega arith) (omega arith) (omega (arith, pow-more j)) (omega (arith, pow-more j)) (grown .left j k s pos (omega arith) lo hi h))
+      (row-leaves d (j + 1) (2 * k + 1) (rightOf f j s) (omega arith) (omega arith) (omega (arith, pow-more j)) (omega (arith, pow-more j)) (grown .right j k s pos (omega arith) lo hi h))

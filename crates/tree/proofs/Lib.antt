@@ -8,4 +8,6 @@ pub mod Depth
 pub mod Ext
 pub mod Halves
 pub mod Counts
+pub mod Sibling
 pub mod Arrays
+pub mod Layers
