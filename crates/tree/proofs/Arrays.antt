@@ -2,9 +2,9 @@
 -- 2 ^ j up to, not including, 2 * 2 ^ j. Assumes nothing.
 use mathlib.Core.Path.{_≡_, refl, sym, ap, ap₂, subst, _∙_}
 use mathlib.Core.Logic.{⊎-elim}
-use mathlib.Core.Bool.{Bool, true, false, cond}
+use mathlib.Core.Bool.{Bool, cond}
 use mathlib.Core.List.{List, [], _∷_, _++_}
-use Prim.Native.Nat.{ℕ, zero, suc, _+_, _-_, _*_, _^_, _<_, _≤_}
+use Prim.Native.Nat.{ℕ, zero, suc, _+_, _*_, _^_, _<_, _≤_}
 use native.Mathlib.Nat.{add-zero, pow-suc, eq-or-lt-of-le}
 use native.Mathlib.Omega.{arith}
 use lib.Pow.{pow-mono}
@@ -12,8 +12,7 @@ use borrow.Author.Tests.{eq-eqb, ne-eqb}
 use Rattle.octets.specs.Xor.{xorB}
 use Rattle.tree.specs.Tree.{leavesOf, leftOf, rightOf}
 use Rattle.tree.specs.Layers.{put, loop, row}
-use Rattle.tree.proofs.Depth.{pow-more}
-use Rattle.tree.proofs.Sibling.{pow-twice, pow-next}
+use Rattle.tree.proofs.Powers.{pow-more, pow-twice, pow-next}
 
 -- ---- a place is written
 

@@ -1,29 +1,20 @@
 -- The definitions at depth zero and above it, as code that recurses on two halves of a buffer has them: the join laws give what the whole
 -- holds from what the halves hold. Assumes nothing.
-use mathlib.Core.Path.{_≡_, refl, sym, ap, ap₂, subst, _∙_}
+use mathlib.Core.Path.{_≡_, refl, sym, ap, ap₂, _∙_}
 use mathlib.Core.List.{List, [], _∷_, _++_}
 use Prim.Native.Nat.{ℕ, zero, suc, _+_, _-_, _*_, _^_, _<_, _≤_}
-use native.Mathlib.Nat.{pow-suc}
-use native.Mathlib.Numerals.{sub-one, add-one}
-use native.Mathlib.Omega.{arith}
+use native.Mathlib.Numerals.{sub-one}
 use borrow.Author.Tests.{lt-ltb, le-ltb}
 use Rattle.octets.specs.Xor.{xorB}
 use Rattle.octets.specs.Lists.{flat, part, zero16}
 use Rattle.octets.proofs.Part.{flat-append, flat-one}
 use Rattle.tree.specs.Tree.{leavesOf, pathOf, rebuildOf, treeOf, treePathOf, leftOf, rightOf}
 
-pub pow-half : (d : ℕ) → (d ≡ 0 → ⊥) → 2 ^ d ≡ 2 * 2 ^ (d - 1)
-pow-half zero f = absurd (f refl)
-pow-half (suc d) f = rw (sub-one, pow-suc) (omega arith)
-
 pub leaves-down : (f : ℕ → List ℕ → List ℕ) (d j : ℕ) (s : List ℕ) → (d ≡ 0 → ⊥)
     → flat (leavesOf f d j s) ≡ flat (leavesOf f (d - 1) (j + 1) (leftOf f j s)) ++ flat (leavesOf f (d - 1) (j + 1) (rightOf f j s))
 unfolding leavesOf
 leaves-down f zero j s h = absurd (h refl)
 leaves-down f (suc d) j s h = rw sub-one (flat-append (leavesOf f d (j + 1) (leftOf f j s)) (leavesOf f d (j + 1) (rightOf f j s)))
-
-pub two-zero : {d : ℕ} → d ≡ 0 → 2 ^ d ≡ 1
-two-zero e = ap (λ (n : ℕ). 2 ^ n) e
 
 pub leaves-zero : (f : ℕ → List ℕ → List ℕ) (d j : ℕ) (s : List ℕ) → d ≡ 0 → flat (leavesOf f d j s) ≡ s
 unfolding leavesOf
@@ -124,6 +115,3 @@ module _ (f : ℕ → List ℕ → List ℕ) where
       rw (le-ltb i (2 ^ d) (rw en at le))
       (ap₂ _++_ (ey ∙ ap₂ (λ (k : ℕ) (x : List ℕ). flat (pathOf f d 1 (i - k) x)) en eo) (ez ∙ sym (flat-one r))
       ∙ sym (flat-append (pathOf f d 1 (i - 2 ^ d) (xorB r δ)) (r ∷ [])))
-
-pub pow-more : (d : ℕ) → 2 ^ (d + 1) ≡ 2 * 2 ^ d
-pow-more d = rw (add-one, pow-suc) (omega arith)

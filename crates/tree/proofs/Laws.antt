@@ -4,11 +4,11 @@ use mathlib.Core.Path.{_≡_, refl, sym, ap, ap₂, _∙_}
 use mathlib.Core.Logic.{⊎-elim}
 use mathlib.Core.Bool.{cond}
 use mathlib.Core.List.{List, [], _∷_, _++_, append-assoc, append-nil}
-use Prim.Native.Nat.{ℕ, zero, suc, _+_, _-_, _*_, _^_, _<_, _≤_}
+use Prim.Native.Nat.{ℕ, zero, suc, _+_, _-_, _*_, _^_, _<_}
 use native.Mathlib.Nat.{pow-suc, eq-zero-or-pos}
 use native.Mathlib.Omega.{arith}
 use lib.Dec.{ltb}
-use lib.ListN.{length, take, drop, set}
+use lib.ListN.{length, set}
 use lib.Seq.{take-at, drop-at, set-append-left}
 use borrow.Author.Tests.{lt-ltb, le-ltb}
 use Rattle.octets.specs.Xor.{xorB}
@@ -16,15 +16,9 @@ use Rattle.octets.specs.Lists.{flat, part, zero16}
 use Rattle.octets.proofs.Xor.{length-xorB, xorB-undo}
 use Rattle.octets.proofs.Part.{flat-append, flat-one}
 use Rattle.tree.specs.Tree.{leavesOf, pathOf, rebuildOf, treeOf, treePathOf, leftOf, rightOf, Keeps16, xorAll}
+use Rattle.tree.proofs.Octets.{set-append-right}
 use Rattle.tree.proofs.Xor.{xorAll-append, xorAll-one}
 use Rattle.tree.proofs.Lengths.{length-leaves, length-path}
-
-set-append-right : (a b : List (List ℕ)) (i n : ℕ) (x : List ℕ) → length a ≡ n → n ≤ i → set (a ++ b) i x ≡ a ++ set b (i - n) x
-set-append-right [] b i n x e h = ap (λ (k : ℕ). set b k x) (omega arith)
-set-append-right (y ∷ a) b zero n x e h = absurd (omega arith)
-set-append-right (y ∷ a) b (suc i) zero x e h = absurd (omega arith)
-set-append-right (y ∷ a) b (suc i) (suc n) x e h =
-    ap (λ (l : List (List ℕ)). y ∷ l) (set-append-right a b i n x (omega arith) (omega arith) ∙ ap (λ (k : ℕ). a ++ set b k x) (omega arith))
 
 -- a path that ends in x, and more after it
 grown : (p : List (List ℕ)) (x q : List ℕ) → flat (p ++ (x ∷ [])) ++ q ≡ flat p ++ (x ++ q)
@@ -104,6 +98,12 @@ module _ (f : ℕ → List ℕ → List ℕ) (keeps : Keeps16 f) where
       rebuild-node d j i (leftOf f j s) (rightOf f j s) q (length-left j s h) (length-right j s h) lt
       (λ k s' p h' lt'. rebuild-leaves d (j + 1) k s' p h' lt')
 
+  -- with nothing after it
+  pub rebuild-leaves-all : (d j i : ℕ) (s : List ℕ) → length s ≡ 16 → i < 2 ^ d
+      → rebuildOf f d j i (flat (pathOf f d j i s)) ≡ set (leavesOf f d j s) i zero16
+  rebuild-leaves-all d j i s h lt =
+      ap (rebuildOf f d j i) (sym (append-nil (flat (pathOf f d j i s)))) ∙ rebuild-leaves d j i s [] h lt
+
   -- the same of the whole tree
   pub rebuild-tree : (d i : ℕ) (r δ q : List ℕ) → length r ≡ 16 → length δ ≡ 16 → i < 2 ^ suc d
       → rebuildOf f (suc d) 0 i (flat (treePathOf f d i r δ) ++ q) ≡ set (treeOf f d r δ) i zero16
@@ -111,7 +111,6 @@ module _ (f : ℕ → List ℕ → List ℕ) (keeps : Keeps16 f) where
   rebuild-tree d i r δ q hr hd lt =
       rebuild-node d 0 i r (xorB r δ) q hr (length-xorB 16 r δ hr hd) lt (λ k s p h l. rebuild-leaves d 1 k s p h l)
 
-  -- with nothing after it
   pub rebuild-tree-all : (d i : ℕ) (r δ : List ℕ) → length r ≡ 16 → length δ ≡ 16 → i < 2 ^ suc d
       → rebuildOf f (suc d) 0 i (flat (treePathOf f d i r δ)) ≡ set (treeOf f d r δ) i zero16
   rebuild-tree-all d i r δ hr hd lt =

@@ -1,19 +1,18 @@
 -- Algorithms 14 and 15 as they stand give the tree and the path by halves. Assumes nothing.
-use mathlib.Core.Path.{_≡_, refl, sym, ap, ap₂, subst, _∙_}
+use mathlib.Core.Path.{_≡_, refl, sym, ap, ap₂, _∙_}
 use mathlib.Core.Logic.{⊎-elim}
 use mathlib.Core.Bool.{cond}
 use mathlib.Core.List.{List, [], _∷_, _++_}
 use Prim.Native.Nat.{ℕ, zero, suc, _+_, _-_, _*_, _/_, _^_, _<_, _≤_}
 use native.Mathlib.Nat.{pow-suc, eq-zero-or-pos, div-one, one-mul, add-zero}
-use native.Mathlib.Numerals.{sub-one}
 use native.Mathlib.Omega.{arith}
-use lib.Pow.{high, shr-shr}
+use lib.Pow.{shr-shr}
 use lib.Dec.{ltb, lit<, lit≤}
 use borrow.Author.Tests.{lt-ltb, le-ltb}
 use Rattle.octets.specs.Xor.{_⊕_, xorB}
 use Rattle.tree.specs.Tree.{pathOf, treeOf, treePathOf, leftOf, rightOf}
-use Rattle.tree.specs.Layers.{put, loop, row, deriveNode, ggmNodes, ggmExpand, siblings, ggmOpen}
-use Rattle.tree.proofs.Depth.{pow-more}
+use Rattle.tree.specs.Layers.{put, row, deriveNode, ggmNodes, ggmExpand, siblings, ggmOpen}
+use Rattle.tree.proofs.Powers.{pow-more}
 use Rattle.tree.proofs.Sibling.{sibling-even, sibling-odd, leaf-left, leaf-right, above-left, above-right}
 use Rattle.tree.proofs.Arrays.{put-same, put-other, pair-even, pair-odd, pair-other, row-halves, Turn, layers-above, layers-child, Grown, row-leaves}
 

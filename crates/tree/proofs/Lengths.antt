@@ -12,7 +12,7 @@ use Rattle.octets.specs.Lists.{flat, part, zero16}
 use Rattle.octets.proofs.Xor.{length-xorB}
 use Rattle.octets.proofs.Part.{length-part}
 use Rattle.tree.specs.Tree.{leavesOf, pathOf, rebuildOf, treeOf, treePathOf, leftOf, rightOf, Keeps16}
-use Rattle.tree.proofs.Each.{Each, All16, each-one, each-append, each-cond, length-flat}
+use Rattle.tree.proofs.Octets.{Each, All16, each-one, each-append, each-cond, length-flat}
 
 length-cond : (t : Bool) (a b : List (List ℕ)) (n : ℕ) → length a ≡ n → length b ≡ n → length (cond t a b) ≡ n
 length-cond true a b n p q = p
@@ -111,7 +111,6 @@ module _ (P : List ℕ → Type 0) (f : ℕ → List ℕ → List ℕ) (keeps : 
       (each-append P _ _ l (each-rebuild z d (j + 1) (i - 2 ^ d) p (λ k hk. h k (omega arith))))
 
 -- ---- 16 bytes each
-
 
 module _ (f : ℕ → List ℕ → List ℕ) (keeps : Keeps16 f) where
   kept : (j : ℕ) (s : List ℕ) → length s ≡ 16 → length (f j s) ≡ 16

@@ -7,10 +7,24 @@ use native.Mathlib.Omega.{arith}
 use lib.ListN.{length, getD, set, length-set}
 use lib.Seq.{getD-set-other, getD-set-same}
 use Rattle.octets.specs.Lists.{flat, part, zero16}
-use Rattle.tree.specs.Tree.{rebuildOf, treeOf, treePathOf, Keeps16}
-use Rattle.tree.proofs.Each.{Each, All16, each-set, each-at, part-flat}
-use Rattle.tree.proofs.Lengths.{all-tree, length-tree}
-use Rattle.tree.proofs.Laws.{rebuild-tree-all}
+use Rattle.tree.specs.Tree.{leavesOf, pathOf, rebuildOf, treeOf, treePathOf, Keeps16}
+use Rattle.tree.proofs.Octets.{each-set, each-at, part-flat}
+use Rattle.tree.proofs.Lengths.{all-tree, length-leaves, length-tree}
+use Rattle.tree.proofs.Laws.{rebuild-leaves-all, rebuild-tree-all}
+
+-- ---- below a node
+
+module _ (f : ℕ → List ℕ → List ℕ) (keeps : Keeps16 f) (d j i : ℕ) (s : List ℕ) (hs : length s ≡ 16) (hidden : i < 2 ^ d) where
+  pub below-same : (k : ℕ) → k ≢ i → getD (rebuildOf f d j i (flat (pathOf f d j i s))) k [] ≡ getD (leavesOf f d j s) k []
+  below-same k ne =
+      ap (λ (l : List (List ℕ)). getD l k []) (rebuild-leaves-all f keeps d j i s hs hidden) ∙ getD-set-other (leavesOf f d j s) i k zero16 [] ne
+
+  pub below-hidden : getD (rebuildOf f d j i (flat (pathOf f d j i s))) i [] ≡ zero16
+  below-hidden =
+      ap (λ (l : List (List ℕ)). getD l i []) (rebuild-leaves-all f keeps d j i s hs hidden)
+      ∙ getD-set-same (leavesOf f d j s) i zero16 [] (omega (arith, length-leaves f d j s))
+
+-- ---- the whole tree
 
 module _ (f : ℕ → List ℕ → List ℕ) (keeps : Keeps16 f) (d : ℕ) (r δ : List ℕ) (hr : length r ≡ 16) (hd : length δ ≡ 16) where
   pub leaf-16 : (k : ℕ) → k < 2 ^ suc d → length (getD (treeOf f d r δ) k []) ≡ 16

@@ -1,8 +1,9 @@
--- What holds of each of a list of seeds, and what follows for the seeds laid end to end. Assumes nothing.
+-- Lists of seeds: what holds of each of them, and what follows for the seeds laid end to end. Nothing here is about trees.
+-- Assumes nothing.
 use mathlib.Core.Path.{_≡_, refl, ap, ap₂, _∙_}
 use mathlib.Core.List.{List, [], _∷_, _++_}
 use mathlib.Core.Bool.{Bool, true, false, cond}
-use Prim.Native.Nat.{ℕ, zero, suc, _+_, _*_, _<_}
+use Prim.Native.Nat.{ℕ, zero, suc, _+_, _-_, _*_, _<_, _≤_}
 use native.Mathlib.Omega.{arith}
 use lib.ListN.{length, getD, set, take, drop, length-append}
 use lib.Seq.{take-at, drop-append-add}
@@ -70,3 +71,12 @@ unfolding Each
 bytes-getD [] k p = unfold Bytes in tt
 bytes-getD (s ∷ a) zero p = p .0
 bytes-getD (s ∷ a) (suc k) p = bytes-getD a k (p .1)
+
+-- ---- a seed is replaced in the second of two lists
+
+pub set-append-right : (a b : List (List ℕ)) (i n : ℕ) (x : List ℕ) → length a ≡ n → n ≤ i → set (a ++ b) i x ≡ a ++ set b (i - n) x
+set-append-right [] b i n x e h = ap (λ (k : ℕ). set b k x) (omega arith)
+set-append-right (y ∷ a) b zero n x e h = absurd (omega arith)
+set-append-right (y ∷ a) b (suc i) zero x e h = absurd (omega arith)
+set-append-right (y ∷ a) b (suc i) (suc n) x e h =
+    ap (λ (l : List (List ℕ)). y ∷ l) (set-append-right a b i n x (omega arith) (omega arith) ∙ ap (λ (k : ℕ). a ++ set b k x) (omega arith))
