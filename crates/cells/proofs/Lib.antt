@@ -1,0 +1,3 @@
+pub mod Character
+pub mod Text
+pub mod Answers

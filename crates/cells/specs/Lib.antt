@@ -1,0 +1,2 @@
+pub mod Character
+pub mod Cell
