@@ -1,3 +1,4 @@
 pub mod Character
 pub mod Text
 pub mod Answers
+pub mod Cell
