@@ -5,3 +5,4 @@ pub mod Alike
 pub mod Bounds
 pub mod Place
 pub mod Write
+pub mod Frame
