@@ -1,0 +1,8 @@
+pub mod Octets
+pub mod Number
+pub mod Lanes
+pub mod Blocks
+pub mod Output
+pub mod Shake
+pub mod Tables
+pub mod Known

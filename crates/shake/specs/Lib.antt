@@ -1,0 +1,3 @@
+pub mod Keccak
+pub mod Shake
+pub mod Held

@@ -1,0 +1,370 @@
+// SHAKE128 of FIPS 202: the permutation Keccak-f[1600], a sponge that takes a message in parts, and the calls for a whole one.
+ghost use mathlib.Core.Path.{_≡_};
+ghost use mathlib.Core.List.{List, [], _∷_};
+ghost use Prim.Native.Nat.{ℕ, _+_, _*_, _^_, _<_, _≤_};
+ghost use lib.ListN.{length};
+ghost use Rattle.octets.specs.Lists.{part};
+ghost use Rattle.shake.specs.Keccak.{theta, rho, pi, chi, iota, round, keccakF};
+ghost use Rattle.shake.specs.Shake.{xorByte, xorBytes, output, shake128};
+ghost use Rattle.shake.specs.Held.{fed, Absorbs, Finishes, PutSome, number};
+
+// 3.2.1 to 3.2.3.
+fn mixed(a: [u64; 25]) -> [u64; 25]
+    ensures { λ r. ⌜ r ≡ pi (rho (theta a)) ⌝ }
+{
+    let a0 = a[0];
+    let a1 = a[1];
+    let a2 = a[2];
+    let a3 = a[3];
+    let a4 = a[4];
+    let a5 = a[5];
+    let a6 = a[6];
+    let a7 = a[7];
+    let a8 = a[8];
+    let a9 = a[9];
+    let a10 = a[10];
+    let a11 = a[11];
+    let a12 = a[12];
+    let a13 = a[13];
+    let a14 = a[14];
+    let a15 = a[15];
+    let a16 = a[16];
+    let a17 = a[17];
+    let a18 = a[18];
+    let a19 = a[19];
+    let a20 = a[20];
+    let a21 = a[21];
+    let a22 = a[22];
+    let a23 = a[23];
+    let a24 = a[24];
+    let c0 = a0 ^ a5 ^ a10 ^ a15 ^ a20;
+    let c1 = a1 ^ a6 ^ a11 ^ a16 ^ a21;
+    let c2 = a2 ^ a7 ^ a12 ^ a17 ^ a22;
+    let c3 = a3 ^ a8 ^ a13 ^ a18 ^ a23;
+    let c4 = a4 ^ a9 ^ a14 ^ a19 ^ a24;
+    let d0 = c4 ^ (c1 << 1 | c1 >> 63);
+    let d1 = c0 ^ (c2 << 1 | c2 >> 63);
+    let d2 = c1 ^ (c3 << 1 | c3 >> 63);
+    let d3 = c2 ^ (c4 << 1 | c4 >> 63);
+    let d4 = c3 ^ (c0 << 1 | c0 >> 63);
+    let t0 = a0 ^ d0;
+    let t1 = a1 ^ d1;
+    let t2 = a2 ^ d2;
+    let t3 = a3 ^ d3;
+    let t4 = a4 ^ d4;
+    let t5 = a5 ^ d0;
+    let t6 = a6 ^ d1;
+    let t7 = a7 ^ d2;
+    let t8 = a8 ^ d3;
+    let t9 = a9 ^ d4;
+    let t10 = a10 ^ d0;
+    let t11 = a11 ^ d1;
+    let t12 = a12 ^ d2;
+    let t13 = a13 ^ d3;
+    let t14 = a14 ^ d4;
+    let t15 = a15 ^ d0;
+    let t16 = a16 ^ d1;
+    let t17 = a17 ^ d2;
+    let t18 = a18 ^ d3;
+    let t19 = a19 ^ d4;
+    let t20 = a20 ^ d0;
+    let t21 = a21 ^ d1;
+    let t22 = a22 ^ d2;
+    let t23 = a23 ^ d3;
+    let t24 = a24 ^ d4;
+    [
+        t0,
+        t6 << 44 | t6 >> 20,
+        t12 << 43 | t12 >> 21,
+        t18 << 21 | t18 >> 43,
+        t24 << 14 | t24 >> 50,
+        t3 << 28 | t3 >> 36,
+        t9 << 20 | t9 >> 44,
+        t10 << 3 | t10 >> 61,
+        t16 << 45 | t16 >> 19,
+        t22 << 61 | t22 >> 3,
+        t1 << 1 | t1 >> 63,
+        t7 << 6 | t7 >> 58,
+        t13 << 25 | t13 >> 39,
+        t19 << 8 | t19 >> 56,
+        t20 << 18 | t20 >> 46,
+        t4 << 27 | t4 >> 37,
+        t5 << 36 | t5 >> 28,
+        t11 << 10 | t11 >> 54,
+        t17 << 15 | t17 >> 49,
+        t23 << 56 | t23 >> 8,
+        t2 << 62 | t2 >> 2,
+        t8 << 55 | t8 >> 9,
+        t14 << 39 | t14 >> 25,
+        t15 << 41 | t15 >> 23,
+        t21 << 2 | t21 >> 62,
+    ]
+}
+
+// 3.2.4 and 3.2.5.
+fn rows(b: [u64; 25], rc: u64) -> [u64; 25]
+    ensures { λ r. ⌜ r ≡ iota rc (chi b) ⌝ }
+{
+    let b0 = b[0];
+    let b1 = b[1];
+    let b2 = b[2];
+    let b3 = b[3];
+    let b4 = b[4];
+    let b5 = b[5];
+    let b6 = b[6];
+    let b7 = b[7];
+    let b8 = b[8];
+    let b9 = b[9];
+    let b10 = b[10];
+    let b11 = b[11];
+    let b12 = b[12];
+    let b13 = b[13];
+    let b14 = b[14];
+    let b15 = b[15];
+    let b16 = b[16];
+    let b17 = b[17];
+    let b18 = b[18];
+    let b19 = b[19];
+    let b20 = b[20];
+    let b21 = b[21];
+    let b22 = b[22];
+    let b23 = b[23];
+    let b24 = b[24];
+    [
+        b0 ^ (!b1 & b2) ^ rc,
+        b1 ^ (!b2 & b3),
+        b2 ^ (!b3 & b4),
+        b3 ^ (!b4 & b0),
+        b4 ^ (!b0 & b1),
+        b5 ^ (!b6 & b7),
+        b6 ^ (!b7 & b8),
+        b7 ^ (!b8 & b9),
+        b8 ^ (!b9 & b5),
+        b9 ^ (!b5 & b6),
+        b10 ^ (!b11 & b12),
+        b11 ^ (!b12 & b13),
+        b12 ^ (!b13 & b14),
+        b13 ^ (!b14 & b10),
+        b14 ^ (!b10 & b11),
+        b15 ^ (!b16 & b17),
+        b16 ^ (!b17 & b18),
+        b17 ^ (!b18 & b19),
+        b18 ^ (!b19 & b15),
+        b19 ^ (!b15 & b16),
+        b20 ^ (!b21 & b22),
+        b21 ^ (!b22 & b23),
+        b22 ^ (!b23 & b24),
+        b23 ^ (!b24 & b20),
+        b24 ^ (!b20 & b21),
+    ]
+}
+
+// 3.3.
+fn round(a: [u64; 25], rc: u64) -> [u64; 25]
+    ensures { λ r. ⌜ r ≡ round rc a ⌝ }
+{
+    let b = mixed(a);
+    rows(b, rc)
+}
+
+// The constants of the 24 rounds (3.2.5).
+const RC: [u64; 24] = [
+    0x0000000000000001,
+    0x0000000000008082,
+    0x800000000000808a,
+    0x8000000080008000,
+    0x000000000000808b,
+    0x0000000080000001,
+    0x8000000080008081,
+    0x8000000000008009,
+    0x000000000000008a,
+    0x0000000000000088,
+    0x0000000080008009,
+    0x000000008000000a,
+    0x000000008000808b,
+    0x800000000000008b,
+    0x8000000000008089,
+    0x8000000000008003,
+    0x8000000000008002,
+    0x8000000000000080,
+    0x000000000000800a,
+    0x800000008000000a,
+    0x8000000080008081,
+    0x8000000000008080,
+    0x0000000080000001,
+    0x8000000080008008,
+];
+
+// 3.4: the permutation.
+pub fn keccak_f(a: &mut [u64; 25])
+    ensures { λ _. ⌜ now (a .exit) ≡ keccakF (now (a .entry)) ⌝ }
+{
+    let rc = RC;
+    let mut s = *a;
+    for i in 0..24 {
+        let t = round(s, rc[i]);
+        s = t;
+    }
+    *a = s;
+}
+
+// A message's whole blocks are absorbed, and what is left of it is added to the bytes below `at`. Of `at` the rest modulo 168 counts.
+pub struct Sponge {
+    pub lanes: [u64; 25],
+    pub at: usize,
+}
+
+// The byte b is added at byte j.
+fn put(a: &mut [u64; 25], j: usize, b: u8)
+    requires { ⌜ j < 200 ⌝ }
+    ensures { λ _. ⌜ now (a .exit) ≡ xorByte (now (a .entry)) j b ⌝ }
+{
+    let k = j / 8;
+    a[k] = a[k] ^ ((b as u64) << 8 * (j % 8));
+}
+
+fn wide(x: u8) -> u64
+    ensures { λ r. ⌜ (r ≡ x) × (r < 256) ⌝ }
+{
+    x as u64
+}
+
+// The number of the 4 bytes of the text from i on.
+fn word4(text: &[u8], i: usize) -> u64
+    requires { ⌜ i + 4 ≤ length (now text) ⌝ }
+    ensures { λ r. ⌜ (r ≡ number (part i 4 (now (text .entry)))) × (r < 2 ^ 32) ⌝ }
+{
+    wide(text[i])
+        + wide(text[i + 1]) * 0x100
+        + wide(text[i + 2]) * 0x10000
+        + wide(text[i + 3]) * 0x1000000
+}
+
+// The number of the 8 bytes of the text from i on.
+fn word8(text: &[u8], i: usize) -> u64
+    requires { ⌜ i + 8 ≤ length (now text) ⌝ }
+    ensures { λ r. ⌜ r ≡ number (part i 8 (now (text .entry))) ⌝ }
+{
+    word4(text, i) + word4(text, i + 4) * 0x100000000
+}
+
+// The 8 bytes of the text from i on are added to lane k.
+fn put8(a: &mut [u64; 25], k: usize, text: &[u8], i: usize)
+    requires { ⌜ (k < 25) × (i + 8 ≤ length (now text)) ⌝ }
+    ensures { λ _. ⌜ now (a .exit) ≡ xorBytes (now (a .entry)) (8 * k) (part i 8 (now (text .entry))) ⌝ }
+{
+    let w = word8(text, i);
+    a[k] = a[k] ^ w;
+}
+
+// The 168 bytes of the text from i on are added.
+fn put_block(a: &mut [u64; 25], text: &[u8], i: usize)
+    requires { ⌜ i + 168 ≤ length (now text) ⌝ }
+    ensures { λ _. ⌜ now (a .exit) ≡ xorBytes (now (a .entry)) 0 (part i 168 (now (text .entry))) ⌝ }
+{
+    for k in 0..21usize {
+        put8(a, k, text, i + 8 * k);
+    }
+}
+
+// The text's next block, or its next 8 bytes where they make a lane, or its next byte, are added at byte j. Gives how many.
+fn put_some(a: &mut [u64; 25], j: usize, text: &[u8], i: usize) -> usize
+    requires { ⌜ (j < 168) × (i < length (now text)) ⌝ }
+    ensures { λ r. ⌜ PutSome (now (a .entry)) j (now (text .entry)) i r (now (a .exit)) ⌝ }
+{
+    if j == 0 {
+        if text.len() - i >= 168 {
+            put_block(a, text, i);
+            return 168;
+        }
+    }
+    if j % 8 == 0 {
+        if text.len() - i >= 8 {
+            put8(a, j / 8, text, i);
+            return 8;
+        }
+    }
+    put(a, j, text[i]);
+    1
+}
+
+// A sponge that was fed nothing.
+pub fn start() -> Sponge
+    ensures { λ r. ⌜ r ≡ fed [] ⌝ }
+{
+    Sponge {
+        lanes: [0; 25],
+        at: 0,
+    }
+}
+
+// The sponge s with the text after what it was fed.
+pub fn absorb(s: Sponge, text: &[u8]) -> Sponge
+    ensures { λ r. ⌜ Absorbs s (now (text .entry)) r ⌝ }
+{
+    let mut a = s.lanes;
+    let mut at = s.at % 168;
+    let mut i = 0;
+    while i < text.len() {
+        let n = put_some(&mut a, at, text, i);
+        i += n;
+        at += n;
+        if at == 168 {
+            keccak_f(&mut a);
+            at = 0;
+        }
+    }
+    Sponge { lanes: a, at }
+}
+
+// The state after the padding, of which `squeeze` reads the output.
+pub fn finish(s: Sponge) -> [u64; 25]
+    ensures { λ r. ⌜ Finishes s r ⌝ }
+{
+    let mut a = s.lanes;
+    put(&mut a, s.at % 168, 0x1f);
+    put(&mut a, 167, 0x80);
+    keccak_f(&mut a);
+    a
+}
+
+// out is filled with the first bytes of the output that the state has.
+pub fn squeeze(lanes: [u64; 25], out: &mut [u8])
+    ensures { λ _. ⌜ now (out .exit) ≡ output lanes (length (now (out .entry))) ⌝ }
+{
+    let mut a = lanes;
+    let mut j = 0;
+    for i in 0..out.len() {
+        if j == 168 {
+            keccak_f(&mut a);
+            j = 0;
+        }
+        out[i] = ((a[j / 8] >> 8 * (j % 8)) % 256) as u8;
+        j += 1;
+    }
+}
+
+// out is filled with the first bytes of SHAKE128 of the text.
+pub fn xof(text: &[u8], out: &mut [u8])
+    ensures { λ _. ⌜ now (out .exit) ≡ shake128 (now (text .entry)) (length (now (out .entry))) ⌝ }
+{
+    squeeze(finish(absorb(start(), text)), out);
+}
+
+// The first 32 bytes of SHAKE128 of the text.
+pub fn hash32(text: &[u8]) -> [u8; 32]
+    ensures { λ r. ⌜ r ≡ shake128 (now (text .entry)) 32 ⌝ }
+{
+    let mut h = [0u8; 32];
+    xof(text, &mut h);
+    h
+}
+
+// out is filled with the first bytes of SHAKE128 of the byte `first` and then the text.
+pub fn xof_after(first: u8, text: &[u8], out: &mut [u8])
+    ensures { λ _. ⌜ now (out .exit) ≡ shake128 (first ∷ now (text .entry)) (length (now (out .entry))) ⌝ }
+{
+    let p = [first];
+    let s = absorb(start(), &p);
+    squeeze(finish(absorb(s, text)), out);
+}
