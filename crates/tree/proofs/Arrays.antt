@@ -1,5 +1,4 @@
--- Arrays of nodes that are filled layer by layer, as algorithms 14 and 16 do it: what a place holds in the end. Layer j is the places from
--- 2 ^ j up to, not including, 2 * 2 ^ j. Assumes nothing.
+-- Arrays of nodes that are filled layer by layer, as algorithms 14 and 16 do it: what a place holds in the end. Assumes nothing.
 use mathlib.Core.Path.{_≡_, refl, sym, ap, ap₂, subst, _∙_}
 use mathlib.Core.Logic.{⊎-elim}
 use mathlib.Core.Bool.{Bool, cond}
@@ -52,7 +51,8 @@ row-append a zero m node = ap₂ (λ (x y : ℕ). row x y node) here none
     none = omega arith
 row-append a (suc n) m node =
     ap (λ (x : ℕ). row a x node) more
-    ∙ ap (λ (l : List (List ℕ)). node a ∷ l) (row-append (a + 1) n m node ∙ ap (λ (x : ℕ). row (a + 1) n node ++ row x m node) (omega arith))
+    ∙ ap (λ (l : List (List ℕ)). node a ∷ l)
+    (row-append (a + 1) n m node ∙ ap (λ (x : ℕ). row (a + 1) n node ++ row x m node) (omega arith))
   where
     more : suc n + m ≡ suc (n + m)
     more = omega arith
@@ -99,10 +99,22 @@ module _ {A : Type 0} (child : ℕ → A → A → A) (body : ℕ → (ℕ → A
       (inner-before (a + 1) n (2 * a + c) (body a node) (omega arith) ∙ turn .here a c node hc))
       (λ (e : a < k).
       inner-child (a + 1) n k c (body a node) hc (omega arith) (omega arith) (omega arith)
-      ∙ ap₂ (child c) (turn .other a k node (λ q. omega arith) (λ q. omega arith)) (turn .other a (2 * k + c) node (λ q. omega arith) (λ q. omega arith)))
+      ∙ ap₂ (child c) (turn .other a k node (λ q. omega arith) (λ q. omega arith))
+      (turn .other a (2 * k + c) node (λ q. omega arith) (λ q. omega arith)))
       (eq-or-lt-of-le {n = a} {m = k} lo)
 
 -- ---- layer after layer
+
+-- place k is in layer j
+pub record Layer (j k : ℕ) : Type 0 where
+  pub low : 2 ^ j ≤ k
+  pub high : k < 2 * 2 ^ j
+
+pub layer-left : (j k : ℕ) → Layer j k → Layer (j + 1) (2 * k)
+layer-left j k lay = record { low = omega (arith, pow-more j); high = omega (arith, pow-more j) }
+
+pub layer-right : (j k : ℕ) → Layer j k → Layer (j + 1) (2 * k + 1)
+layer-right j k lay = record { low = omega (arith, pow-more j); high = omega (arith, pow-more j) }
 
 module _ {A : Type 0} (child : ℕ → ℕ → A → A → A) (body : ℕ → ℕ → (ℕ → A) → ℕ → A) (turn : (j : ℕ) → Turn (child j) (body j)) where
   abbrev layers : ℕ → ℕ → (ℕ → A) → ℕ → A
@@ -116,48 +128,51 @@ module _ {A : Type 0} (child : ℕ → ℕ → A → A → A) (body : ℕ → �
       layers-above (j + 1) n m (loop (2 ^ j) (2 ^ j) (body j) node) (omega (arith, pow-more j))
       ∙ inner-before (child j) (body j) (turn j) (2 ^ j) (2 ^ j) m node h
 
-  first-child : (j n k c : ℕ) (node : ℕ → A) → c < 2 → 2 ^ j ≤ k → k < 2 * 2 ^ j
+  first-child : (j n k c : ℕ) (node : ℕ → A) → c < 2 → Layer j k
       → layers j (suc n) node (2 * k + c) ≡ child j c (layers j (suc n) node k) (node (2 * k + c))
   unfolding loop
-  first-child j n k c node hc lo hi =
+  first-child j n k c node hc lay =
       layers-above (j + 1) n (2 * k + c) (loop (2 ^ j) (2 ^ j) (body j) node) (omega (arith, pow-more j))
-      ∙ inner-child (child j) (body j) (turn j) (2 ^ j) (2 ^ j) k c node hc (omega arith) lo (omega arith)
-      ∙ ap (λ (x : A). child j c x (node (2 * k + c))) (sym (layers-above j (suc n) k node hi))
+      ∙ inner-child (child j) (body j) (turn j) (2 ^ j) (2 ^ j) k c node hc (omega arith) (lay .low) (omega arith)
+      ∙ ap (λ (x : A). child j c x (node (2 * k + c))) (sym (layers-above j (suc n) k node (lay .high)))
 
   -- each node of layer q has given its children
-  pub layers-child : (j n q k c : ℕ) (node : ℕ → A) → c < 2 → j ≤ q → q < j + n → 2 ^ q ≤ k → k < 2 * 2 ^ q
+  pub layers-child : (j n q k c : ℕ) (node : ℕ → A) → c < 2 → j ≤ q → q < j + n → Layer q k
       → layers j n node (2 * k + c) ≡ child q c (layers j n node k) (node (2 * k + c))
   unfolding loop
-  layers-child j zero q k c node hc hq hn lo hi = absurd (omega arith)
-  layers-child j (suc n) q k c node hc hq hn lo hi =
+  layers-child j zero q k c node hc hq hn lay = absurd (omega arith)
+  layers-child j (suc n) q k c node hc hq hn lay =
       ⊎-elim
       (λ (e : j ≡ q).
       subst (λ (x : ℕ). layers j (suc n) node (2 * k + c) ≡ child x c (layers j (suc n) node k) (node (2 * k + c))) e
-      (first-child j n k c node hc (subst (λ (x : ℕ). 2 ^ x ≤ k) (sym e) lo) (subst (λ (x : ℕ). k < 2 * 2 ^ x) (sym e) hi)))
+      (first-child j n k c node hc (subst (λ (x : ℕ). Layer x k) (sym e) lay)))
       (λ (e : j < q).
-      layers-child (j + 1) n q k c (loop (2 ^ j) (2 ^ j) (body j) node) hc (omega arith) (omega arith) lo hi
+      layers-child (j + 1) n q k c (loop (2 ^ j) (2 ^ j) (body j) node) hc (omega arith) (omega arith) lay
       ∙ ap (child q c (layers j (suc n) node k))
-      (inner-after (child j) (body j) (turn j) (2 ^ j) (2 ^ j) (2 * k + c) node (omega (arith, pow-more j, pow-mono {i = j + 1} {j = q} (omega arith)))))
+      (inner-after (child j) (body j) (turn j) (2 ^ j) (2 ^ j) (2 * k + c) node
+      (omega (arith, pow-more j, pow-mono {i = j + 1} {j = q} (omega arith)))))
       (eq-or-lt-of-le {n = j} {m = q} hq)
 
 -- ---- the leaves below a node
 
 -- Has k s: node[k] is s. Each node of the layers from 1 up to, not including, D has given its children
 pub record Grown (f : ℕ → List ℕ → List ℕ) (D : ℕ) (Has : ℕ → List ℕ → Type 0) : Type 0 where
-  pub left : (j k : ℕ) (s : List ℕ) → 0 < j → j < D → 2 ^ j ≤ k → k < 2 * 2 ^ j → Has k s → Has (2 * k) (f j s)
-  pub right : (j k : ℕ) (s : List ℕ) → 0 < j → j < D → 2 ^ j ≤ k → k < 2 * 2 ^ j → Has k s → Has (2 * k + 1) (xorB (f j s) s)
+  pub left : (j k : ℕ) (s : List ℕ) → 0 < j → j < D → Layer j k → Has k s → Has (2 * k) (f j s)
+  pub right : (j k : ℕ) (s : List ℕ) → 0 < j → j < D → Layer j k → Has k s → Has (2 * k + 1) (xorB (f j s) s)
 
 module _ (f : ℕ → List ℕ → List ℕ) (D : ℕ) (Has : ℕ → List ℕ → Type 0) (grown : Grown f D Has) (read : ℕ → List ℕ)
     (reads : (k : ℕ) (s : List ℕ) → Has k s → read k ≡ s) where
-  pub row-leaves : (d j k : ℕ) (s : List ℕ) → 0 < j → j + d ≡ D → 2 ^ j ≤ k → k < 2 * 2 ^ j → Has k s → row (k * 2 ^ d) (2 ^ d) read ≡ leavesOf f d j s
+  pub row-leaves : (d j k : ℕ) (s : List ℕ) → 0 < j → j + d ≡ D → Layer j k → Has k s
+      → row (k * 2 ^ d) (2 ^ d) read ≡ leavesOf f d j s
   unfolding row leavesOf
-  row-leaves zero j k s pos e lo hi h =
+  row-leaves zero j k s pos e lay h =
       ap (λ (x : List ℕ). x ∷ []) (ap read one ∙ reads k s h)
     where
       one : k * 1 ≡ k
       one = omega arith
-  row-leaves (suc d) j k s pos e lo hi h =
+  row-leaves (suc d) j k s pos e lay h =
       row-halves k d read
       ∙ ap₂ _++_
-      (row-leaves d (j + 1) (2 * k) (leftOf f j s) (omega arith) (omega arith) (omega (arith, pow-more j)) (omega (arith, pow-more j)) (grown .left j k s pos (omega arith) lo hi h))
-      (row-leaves d (j + 1) (2 * k + 1) (rightOf f j s) (omega arith) (omega arith) (omega (arith, pow-more j)) (omega (arith, pow-more j)) (grown .right j k s pos (omega arith) lo hi h))
+      (row-leaves d (j + 1) (2 * k) (leftOf f j s) (omega arith) (omega arith) (layer-left j k lay) (grown .left j k s pos (omega arith) lay h))
+      (row-leaves d (j + 1) (2 * k + 1) (rightOf f j s) (omega arith) (omega arith) (layer-right j k lay)
+      (grown .right j k s pos (omega arith) lay h))

@@ -58,7 +58,8 @@ module _ (f : ℕ → List ℕ → List ℕ) where
       rw (lt-ltb i (2 ^ d) u, sub-one) (flat-append (rebuildOf f d (j + 1) i p) (leavesOf f d (j + 1) (part (16 * d) 16 p)))
 
   rebuild-right : (d j i : ℕ) (p : List ℕ) → (d ≡ 0 → ⊥) → 2 ^ (d - 1) ≤ i
-      → flat (rebuildOf f d j i p) ≡ flat (leavesOf f (d - 1) (j + 1) (part (16 * (d - 1)) 16 p)) ++ flat (rebuildOf f (d - 1) (j + 1) (i - 2 ^ (d - 1)) p)
+      → flat (rebuildOf f d j i p)
+      ≡ flat (leavesOf f (d - 1) (j + 1) (part (16 * (d - 1)) 16 p)) ++ flat (rebuildOf f (d - 1) (j + 1) (i - 2 ^ (d - 1)) p)
   unfolding rebuildOf
   rebuild-right zero j i p h le = absurd (h refl)
   rebuild-right (suc d) j i p h le =
@@ -82,7 +83,8 @@ module _ (f : ℕ → List ℕ → List ℕ) where
   pub path-join-right : (d j i n : ℕ) (s l r y z : List ℕ) → (d ≡ 0 → ⊥) → n ≡ 2 ^ (d - 1) → n ≤ i → l ≡ f j s → r ≡ xorB l s
       → y ≡ flat (pathOf f (d - 1) (j + 1) (i - n) r) → z ≡ l → y ++ z ≡ flat (pathOf f d j i s)
   path-join-right d j i n s l r y z h en le el er ey ez =
-      ap₂ _++_ (ey ∙ ap₂ (λ (k : ℕ) (x : List ℕ). flat (pathOf f (d - 1) (j + 1) (i - k) x)) en (er ∙ ap (λ (x : List ℕ). xorB x s) el)) (ez ∙ el)
+      ap₂ _++_ (ey ∙ ap₂ (λ (k : ℕ) (x : List ℕ). flat (pathOf f (d - 1) (j + 1) (i - k) x)) en (er ∙ ap (λ (x : List ℕ). xorB x s) el))
+      (ez ∙ el)
       ∙ sym (path-right d j i s h (rw en at le))
 
   pub rebuild-join-left : (d j i n : ℕ) (p x y z : List ℕ) → (d ≡ 0 → ⊥) → n ≡ 2 ^ (d - 1) → i < n → x ≡ part (16 * (d - 1)) 16 p
@@ -96,7 +98,8 @@ module _ (f : ℕ → List ℕ → List ℕ) where
       ap₂ _++_ (ey ∙ ap (λ (q : List ℕ). flat (leavesOf f (d - 1) (j + 1) q)) ex)
       (ez ∙ ap (λ (k : ℕ). flat (rebuildOf f (d - 1) (j + 1) (i - k) p)) en) ∙ sym (rebuild-right d j i p h (rw en at le))
 
-  pub tree-join : (d : ℕ) (r δ o y z : List ℕ) → o ≡ xorB r δ → y ≡ flat (leavesOf f d 1 r) → z ≡ flat (leavesOf f d 1 o) → y ++ z ≡ flat (treeOf f d r δ)
+  pub tree-join : (d : ℕ) (r δ o y z : List ℕ) → o ≡ xorB r δ → y ≡ flat (leavesOf f d 1 r) → z ≡ flat (leavesOf f d 1 o)
+      → y ++ z ≡ flat (treeOf f d r δ)
   unfolding treeOf
   tree-join d r δ o y z eo ey ez =
       ap₂ _++_ ey (ez ∙ ap (λ (x : List ℕ). flat (leavesOf f d 1 x)) eo) ∙ sym (flat-append (leavesOf f d 1 r) (leavesOf f d 1 (xorB r δ)))

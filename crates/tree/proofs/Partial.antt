@@ -1,5 +1,5 @@
 -- Algorithm 16 as it stands gives the rebuilding by halves, whatever bytes the path has. Assumes nothing.
-use mathlib.Core.Path.{_≡_, refl, sym, ap, ap₂, _∙_}
+use mathlib.Core.Path.{_≡_, refl, sym, ap, ap₂, subst, _∙_}
 use mathlib.Core.Logic.{⊎-elim}
 use mathlib.Core.List.{List, [], _∷_, _++_}
 use mathlib.Core.Option.{Option, none, some, Option·getD}
@@ -14,9 +14,10 @@ use Rattle.octets.specs.Xor.{_⊕_, xorB}
 use Rattle.octets.specs.Lists.{flat, part, zero16}
 use Rattle.tree.specs.Tree.{rebuildOf, treePathOf, Keeps16}
 use Rattle.tree.specs.Layers.{put, row, assign, deriveGiven, ggmNodes, ggmExpand, ggmOpen, ggmPartialNodes, ggmPartiallyExpand}
-use Rattle.tree.proofs.Powers.{pow-more}
-use Rattle.tree.proofs.Sibling.{sibling-even, sibling-odd, sibling-low, sibling-high, sibling-apart, leaf-left, leaf-right, above-left, above-right}
-use Rattle.tree.proofs.Arrays.{put-same, put-other, pair-even, pair-odd, pair-other, row-halves, Turn, layers-above, layers-child, Grown, row-leaves}
+use Rattle.tree.proofs.Sibling.{sibling-even, sibling-odd, sibling-low, sibling-high, sibling-apart}
+use Rattle.tree.proofs.Sibling.{leaf-left, leaf-right, above-left, above-right}
+use Rattle.tree.proofs.Arrays.{put-same, put-other, pair-even, pair-odd, pair-other, row-halves}
+use Rattle.tree.proofs.Arrays.{Turn, Layer, layer-left, layer-right, layers-above, layers-child, Grown, row-leaves}
 use Rattle.tree.proofs.Layers.{expand-layers, open-layers}
 use Rattle.tree.proofs.Laws.{rebuild-tree-all}
 
@@ -31,7 +32,8 @@ assign-high (suc n) j i p node m h =
     ∙ put-other (i ⊕ 1) (some (part (16 * j) 16 p)) node m (λ e. omega (arith, sibling-high i))
 
 -- so that a layer stays as its own turn leaves it
-assign-stays : (n j i : ℕ) (p : List ℕ) (node : ℕ → Option (List ℕ)) (m : ℕ) → 2 ^ suc n ≤ i → 2 * (i / 2) ≤ m → assign n j (i / 2) p node m ≡ node m
+assign-stays : (n j i : ℕ) (p : List ℕ) (node : ℕ → Option (List ℕ)) (m : ℕ) → 2 ^ suc n ≤ i → 2 * (i / 2) ≤ m
+    → assign n j (i / 2) p node m ≡ node m
 unfolding assign
 assign-stays zero j i p node m h l = refl
 assign-stays (suc n) j i p node m h l = assign-high (suc n) j (i / 2) p node m (omega (arith, pow-suc 2 (suc n), pow-suc 2 n, pow-pos n))
@@ -64,7 +66,8 @@ assign-path (suc n) j i p node (suc t) h lt =
     more = omega arith
 
 -- nothing at the hidden nodes
-assign-hidden : (n j i : ℕ) (p : List ℕ) (node : ℕ → Option (List ℕ)) (t : ℕ) → 2 ^ n ≤ i → t ≤ n → assign n j i p node (i / 2 ^ t) ≡ node (i / 2 ^ t)
+assign-hidden : (n j i : ℕ) (p : List ℕ) (node : ℕ → Option (List ℕ)) (t : ℕ) → 2 ^ n ≤ i → t ≤ n
+    → assign n j i p node (i / 2 ^ t) ≡ node (i / 2 ^ t)
 unfolding assign
 assign-hidden zero j i p node t h le = refl
 assign-hidden (suc n) j i p node zero h le =
@@ -120,10 +123,11 @@ module _ (f : ℕ → List ℕ → List ℕ) where
     unfolding ggmPartialNodes nodes start
     nodes-above m h = layers-above (child f) (λ j k node. deriveGiven f j k (node k) node) turn 1 (D - 1) m start h
 
-    nodes-child : (j k c : ℕ) → c < 2 → 0 < j → j < D → 2 ^ j ≤ k → k < 2 * 2 ^ j → nodes (2 * k + c) ≡ child f j c (nodes k) (start (2 * k + c))
+    nodes-child : (j k c : ℕ) → c < 2 → 0 < j → j < D → Layer j k
+        → nodes (2 * k + c) ≡ child f j c (nodes k) (start (2 * k + c))
     unfolding ggmPartialNodes nodes start
-    nodes-child j k c hc pos hj lo hi =
-        layers-child (child f) (λ j k node. deriveGiven f j k (node k) node) turn 1 (D - 1) j k c start hc (omega arith) (omega arith) lo hi
+    nodes-child j k c hc pos hj lay =
+        layers-child (child f) (λ j k node. deriveGiven f j k (node k) node) turn 1 (D - 1) j k c start hc (omega arith) (omega arith) lay
 
     -- a node that is there gives its children
     grown : Grown f D (λ k s. nodes k ≡ some s)
@@ -131,20 +135,20 @@ module _ (f : ℕ → List ℕ → List ℕ) where
     grown =
         record {
           left =
-              λ j k s pos hj lo hi e.
-              ap nodes (sym (add-zero (2 * k))) ∙ nodes-child j k 0 (lit< tt) pos hj lo hi
+              λ j k s pos hj lay e.
+              ap nodes (sym (add-zero (2 * k))) ∙ nodes-child j k 0 (lit< tt) pos hj lay
               ∙ ap (λ (o : Option (List ℕ)). child f j 0 o (start (2 * k + 0))) e;
           right =
-              λ j k s pos hj lo hi e.
-              nodes-child j k 1 (lit< tt) pos hj lo hi ∙ ap (λ (o : Option (List ℕ)). child f j 1 o (start (2 * k + 1))) e;
+              λ j k s pos hj lay e.
+              nodes-child j k 1 (lit< tt) pos hj lay ∙ ap (λ (o : Option (List ℕ)). child f j 1 o (start (2 * k + 1))) e;
         }
 
     -- one that is not leaves its children as they were
-    quiet : (j k c : ℕ) → c < 2 → j < D → 2 ^ j ≤ k → k < 2 * 2 ^ j → nodes k ≡ none → nodes (2 * k + c) ≡ start (2 * k + c)
+    quiet : (j k c : ℕ) → c < 2 → j < D → Layer j k → nodes k ≡ none → nodes (2 * k + c) ≡ start (2 * k + c)
     unfolding child
-    quiet zero k c hc hj lo hi e = nodes-above (2 * k + c) (omega arith)
-    quiet (suc j) k c hc hj lo hi e =
-        nodes-child (suc j) k c hc (omega arith) hj lo hi ∙ ap (λ (o : Option (List ℕ)). child f (suc j) c o (start (2 * k + c))) e
+    quiet zero k c hc hj lay e = nodes-above (2 * k + c) (omega arith)
+    quiet (suc j) k c hc hj lay e =
+        nodes-child (suc j) k c hc (omega arith) hj lay ∙ ap (λ (o : Option (List ℕ)). child f (suc j) c o (start (2 * k + c))) e
 
     -- ---- lines 12 to 14
 
@@ -154,7 +158,8 @@ module _ (f : ℕ → List ℕ → List ℕ) where
 
     start-path : (t : ℕ) → t < D → start ((leaf / 2 ^ t) ⊕ 1) ≡ some (part (16 * t) 16 p)
     unfolding start leaf
-    start-path t h = assign-path D 0 (2 ^ D + hidden) p (λ k. none) t (omega arith) h ∙ ap (λ (x : ℕ). some (part (16 * x) 16 p)) (zero-add t)
+    start-path t h =
+        assign-path D 0 (2 ^ D + hidden) p (λ k. none) t (omega arith) h ∙ ap (λ (x : ℕ). some (part (16 * x) 16 p)) (zero-add t)
 
     start-hidden : (t : ℕ) → t ≤ D → start (leaf / 2 ^ t) ≡ none
     unfolding start leaf
@@ -168,34 +173,37 @@ module _ (f : ℕ → List ℕ → List ℕ) where
     reads k s e = ap (λ (o : Option (List ℕ)). Option·getD o zero16) e
 
     -- below a hidden node of layer j
-    row-hidden : (d j k i : ℕ) → j + d ≡ D → 2 ^ j ≤ k → k < 2 * 2 ^ j → leaf ≡ k * 2 ^ d + i → i < 2 ^ d → nodes k ≡ none
+    row-hidden : (d j k i : ℕ) → j + d ≡ D → Layer j k → leaf ≡ k * 2 ^ d + i → i < 2 ^ d → nodes k ≡ none
         → row (k * 2 ^ d) (2 ^ d) read ≡ rebuildOf f d j i p
     unfolding row rebuildOf
-    row-hidden zero j k i e lo hi at h z = ap (λ (x : List ℕ). x ∷ []) (ap read (mul-one k) ∙ unread k z)
+    row-hidden zero j k i e lay is h z = ap (λ (x : List ℕ). x ∷ []) (ap read (mul-one k) ∙ unread k z)
       where
         unread : (k : ℕ) → nodes k ≡ none → read k ≡ zero16
         unread k z = unfold read in ap (λ (o : Option (List ℕ)). Option·getD o zero16) z
-    row-hidden (suc d) j k i e lo hi at h z =
+    row-hidden (suc d) j k i e lay is h z =
         let n : 2 ^ suc d ≡ 2 ^ d * 2 = pow-suc 2 d in
         let below = row-leaves f D (λ k s. nodes k ≡ some s) grown read reads d (j + 1) in
-        let even : nodes (2 * k) ≡ start (2 * k) = ap nodes (sym (add-zero (2 * k))) ∙ quiet j k 0 (lit< tt) (omega arith) lo hi z ∙ ap start (add-zero (2 * k)) in
-        let odd : nodes (2 * k + 1) ≡ start (2 * k + 1) = quiet j k 1 (lit< tt) (omega arith) lo hi z in
+        let even : nodes (2 * k) ≡ start (2 * k) =
+        subst (λ (x : ℕ). nodes x ≡ start x) (add-zero (2 * k)) (quiet j k 0 (lit< tt) (omega arith) lay z) in
+        let odd : nodes (2 * k + 1) ≡ start (2 * k + 1) = quiet j k 1 (lit< tt) (omega arith) lay z in
         row-halves k d read
         ∙ ⊎-elim
         (λ (q : 2 ^ d - i ≡ 0).
-        let up : leaf / 2 ^ d ≡ 2 * k + 1 = ap (λ (x : ℕ). x / 2 ^ d) at ∙ above-right k d i h (omega arith) in
+        let up : leaf / 2 ^ d ≡ 2 * k + 1 = ap (λ (x : ℕ). x / 2 ^ d) is ∙ above-right k d i h (omega arith) in
         let way : nodes (2 * k + 1) ≡ none = odd ∙ ap start (sym up) ∙ start-hidden d (omega arith) in
-        let sent : nodes (2 * k) ≡ some (part (16 * d) 16 p) = even ∙ ap start (sym (ap (λ (x : ℕ). x ⊕ 1) up ∙ sibling-odd k)) ∙ start-path d (omega arith) in
+        let sent : nodes (2 * k) ≡ some (part (16 * d) 16 p) =
+        even ∙ ap start (sym (ap (λ (x : ℕ). x ⊕ 1) up ∙ sibling-odd k)) ∙ start-path d (omega arith) in
         rw (le-ltb i (2 ^ d) (omega arith))
-        (ap₂ _++_ (below (2 * k) (part (16 * d) 16 p) (omega arith) (omega arith) (omega (arith, pow-more j)) (omega (arith, pow-more j)) sent)
-        (row-hidden d (j + 1) (2 * k + 1) (i - 2 ^ d) (omega arith) (omega (arith, pow-more j)) (omega (arith, pow-more j)) (at ∙ leaf-right k d i (omega arith)) (omega arith) way)))
+        (ap₂ _++_ (below (2 * k) (part (16 * d) 16 p) (omega arith) (omega arith) (layer-left j k lay) sent)
+        (row-hidden d (j + 1) (2 * k + 1) (i - 2 ^ d) (omega arith) (layer-right j k lay) (is ∙ leaf-right k d i (omega arith)) (omega arith) way)))
         (λ (q : 0 < 2 ^ d - i).
-        let up : leaf / 2 ^ d ≡ 2 * k = ap (λ (x : ℕ). x / 2 ^ d) at ∙ above-left k d i (omega arith) in
+        let up : leaf / 2 ^ d ≡ 2 * k = ap (λ (x : ℕ). x / 2 ^ d) is ∙ above-left k d i (omega arith) in
         let way : nodes (2 * k) ≡ none = even ∙ ap start (sym up) ∙ start-hidden d (omega arith) in
-        let sent : nodes (2 * k + 1) ≡ some (part (16 * d) 16 p) = odd ∙ ap start (sym (ap (λ (x : ℕ). x ⊕ 1) up ∙ sibling-even k)) ∙ start-path d (omega arith) in
+        let sent : nodes (2 * k + 1) ≡ some (part (16 * d) 16 p) =
+        odd ∙ ap start (sym (ap (λ (x : ℕ). x ⊕ 1) up ∙ sibling-even k)) ∙ start-path d (omega arith) in
         rw (lt-ltb i (2 ^ d) (omega arith))
-        (ap₂ _++_ (row-hidden d (j + 1) (2 * k) i (omega arith) (omega (arith, pow-more j)) (omega (arith, pow-more j)) (at ∙ leaf-left k d i) (omega arith) way)
-        (below (2 * k + 1) (part (16 * d) 16 p) (omega arith) (omega arith) (omega (arith, pow-more j)) (omega (arith, pow-more j)) sent)))
+        (ap₂ _++_ (row-hidden d (j + 1) (2 * k) i (omega arith) (layer-left j k lay) (is ∙ leaf-left k d i) (omega arith) way)
+        (below (2 * k + 1) (part (16 * d) 16 p) (omega arith) (omega arith) (layer-right j k lay) sent)))
         (eq-zero-or-pos (2 ^ d - i))
 
     -- algorithm 16
@@ -204,7 +212,7 @@ module _ (f : ℕ → List ℕ → List ℕ) where
     partially-expand-layers =
         let up : leaf / 2 ^ D ≡ 1 = ap (λ (x : ℕ). (x + hidden) / 2 ^ D) (sym (one-mul (2 ^ D))) ∙ high 1 D lt in
         ap (λ (x : ℕ). row x (2 ^ D) read) (sym (one-mul (2 ^ D)))
-        ∙ row-hidden D 0 1 hidden (zero-add D) (lit≤ tt) (lit< tt) (ap (λ (x : ℕ). x + hidden) (sym (one-mul (2 ^ D)))) lt
+        ∙ row-hidden D 0 1 hidden (zero-add D) (record { low = lit≤ tt; high = lit< tt }) (ap (λ (x : ℕ). x + hidden) (sym (one-mul (2 ^ D)))) lt
         (nodes-above 1 (lit< tt) ∙ ap start (sym up) ∙ start-hidden D (omega arith))
 
 -- what the three algorithms are for: from the path that Open gives, PartiallyExpand makes what Expand made, with zeros at the hidden leaf

@@ -17,7 +17,8 @@ use Rattle.tree.proofs.Laws.{rebuild-leaves-all, rebuild-tree-all}
 module _ (f : ℕ → List ℕ → List ℕ) (keeps : Keeps16 f) (d j i : ℕ) (s : List ℕ) (hs : length s ≡ 16) (hidden : i < 2 ^ d) where
   pub below-same : (k : ℕ) → k ≢ i → getD (rebuildOf f d j i (flat (pathOf f d j i s))) k [] ≡ getD (leavesOf f d j s) k []
   below-same k ne =
-      ap (λ (l : List (List ℕ)). getD l k []) (rebuild-leaves-all f keeps d j i s hs hidden) ∙ getD-set-other (leavesOf f d j s) i k zero16 [] ne
+      ap (λ (l : List (List ℕ)). getD l k []) (rebuild-leaves-all f keeps d j i s hs hidden)
+      ∙ getD-set-other (leavesOf f d j s) i k zero16 [] ne
 
   pub below-hidden : getD (rebuildOf f d j i (flat (pathOf f d j i s))) i [] ≡ zero16
   below-hidden =
@@ -34,7 +35,8 @@ module _ (f : ℕ → List ℕ → List ℕ) (keeps : Keeps16 f) (d : ℕ) (r δ
     -- every leaf but the hidden one is the signer's, at its place
     pub leaf-same : (k : ℕ) → k ≢ i → getD (rebuildOf f (suc d) 0 i (flat (treePathOf f d i r δ))) k [] ≡ getD (treeOf f d r δ) k []
     leaf-same k ne =
-        ap (λ (l : List (List ℕ)). getD l k []) (rebuild-tree-all f keeps d i r δ hr hd hidden) ∙ getD-set-other (treeOf f d r δ) i k zero16 [] ne
+        ap (λ (l : List (List ℕ)). getD l k []) (rebuild-tree-all f keeps d i r δ hr hd hidden)
+        ∙ getD-set-other (treeOf f d r δ) i k zero16 [] ne
 
     -- and the hidden one is zeros
     pub leaf-hidden : getD (rebuildOf f (suc d) 0 i (flat (treePathOf f d i r δ))) i [] ≡ zero16
@@ -44,7 +46,8 @@ module _ (f : ℕ → List ℕ → List ℕ) (keeps : Keeps16 f) (d : ℕ) (r δ
 
     -- the same of the bytes
     rebuilt-at : (k : ℕ) → k < 2 ^ suc d
-        → part (16 * k) 16 (flat (rebuildOf f (suc d) 0 i (flat (treePathOf f d i r δ)))) ≡ getD (rebuildOf f (suc d) 0 i (flat (treePathOf f d i r δ))) k []
+        → part (16 * k) 16 (flat (rebuildOf f (suc d) 0 i (flat (treePathOf f d i r δ))))
+        ≡ getD (rebuildOf f (suc d) 0 i (flat (treePathOf f d i r δ))) k []
     rebuilt-at k h =
         let t = treeOf f d r δ in
         rw (rebuild-tree-all f keeps d i r δ hr hd hidden)
@@ -54,7 +57,8 @@ module _ (f : ℕ → List ℕ → List ℕ) (keeps : Keeps16 f) (d : ℕ) (r δ
     pub leaf-rebuilt : (k : ℕ) → k < 2 ^ suc d → k ≢ i
         → part (16 * k) 16 (flat (rebuildOf f (suc d) 0 i (flat (treePathOf f d i r δ)))) ≡ part (16 * k) 16 (flat (treeOf f d r δ))
     leaf-rebuilt k h ne =
-        rebuilt-at k h ∙ leaf-same k ne ∙ sym (part-flat (treeOf f d r δ) k (all-tree f keeps d r δ hr hd) (omega (arith, length-tree f d r δ)))
+        rebuilt-at k h ∙ leaf-same k ne
+        ∙ sym (part-flat (treeOf f d r δ) k (all-tree f keeps d r δ hr hd) (omega (arith, length-tree f d r δ)))
 
     pub hidden-zero : part (16 * i) 16 (flat (rebuildOf f (suc d) 0 i (flat (treePathOf f d i r δ)))) ≡ zero16
     hidden-zero = rebuilt-at i hidden ∙ leaf-hidden
