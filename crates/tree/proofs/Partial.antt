@@ -8,18 +8,15 @@ use native.Mathlib.Nat.{pow-suc, eq-zero-or-pos, div-one, one-mul, mul-one, add-
 use native.Mathlib.Omega.{arith}
 use lib.Dec.{lit<, lit≤}
 use lib.Pow.{pow-pos, high, shr-shr, shr-le}
-use lib.ListN.{length, set}
 use borrow.Author.Tests.{lt-ltb, le-ltb}
 use Rattle.octets.specs.Xor.{_⊕_, xorB}
-use Rattle.octets.specs.Lists.{flat, part, zero16}
-use Rattle.tree.specs.Tree.{rebuildOf, treePathOf, Keeps16}
-use Rattle.tree.specs.Layers.{put, row, assign, deriveGiven, ggmNodes, ggmExpand, ggmOpen, ggmPartialNodes, ggmPartiallyExpand}
+use Rattle.octets.specs.Lists.{part, zero16}
+use Rattle.tree.specs.Tree.{rebuildOf}
+use Rattle.tree.specs.Layers.{row, assign, deriveGiven, ggmPartialNodes, ggmPartiallyExpand}
 use Rattle.tree.proofs.Sibling.{sibling-even, sibling-odd, sibling-low, sibling-high, sibling-apart}
 use Rattle.tree.proofs.Sibling.{leaf-left, leaf-right, above-left, above-right}
 use Rattle.tree.proofs.Arrays.{put-same, put-other, pair-even, pair-odd, pair-other, row-halves}
 use Rattle.tree.proofs.Arrays.{Turn, Layer, layer-left, layer-right, layers-above, layers-child, Grown, row-leaves}
-use Rattle.tree.proofs.Layers.{expand-layers, open-layers}
-use Rattle.tree.proofs.Laws.{rebuild-tree-all}
 
 -- ---- lines 3 to 5
 
@@ -28,8 +25,8 @@ assign-high : (n j i : ℕ) (p : List ℕ) (node : ℕ → Option (List ℕ)) (m
 unfolding assign
 assign-high zero j i p node m h = refl
 assign-high (suc n) j i p node m h =
-    assign-high n (j + 1) (i / 2) p (put (i ⊕ 1) (some (part (16 * j) 16 p)) node) m (omega arith)
-    ∙ put-other (i ⊕ 1) (some (part (16 * j) 16 p)) node m (λ e. omega (arith, sibling-high i))
+    assign-high n (j + 1) (i / 2) p _ m (omega arith)
+    ∙ put-other (i ⊕ 1) _ node m (λ e. omega (arith, sibling-high i))
 
 -- so that a layer stays as its own turn leaves it
 assign-stays : (n j i : ℕ) (p : List ℕ) (node : ℕ → Option (List ℕ)) (m : ℕ) → 2 ^ suc n ≤ i → 2 * (i / 2) ≤ m
@@ -53,13 +50,13 @@ assign-path : (n j i : ℕ) (p : List ℕ) (node : ℕ → Option (List ℕ)) (t
 unfolding assign
 assign-path zero j i p node t h lt = absurd (omega arith)
 assign-path (suc n) j i p node zero h lt =
-    ap (assign n (j + 1) (i / 2) p (put (i ⊕ 1) (some (part (16 * j) 16 p)) node)) (ap (λ (x : ℕ). x ⊕ 1) (div-one i))
-    ∙ assign-stays n (j + 1) i p (put (i ⊕ 1) (some (part (16 * j) 16 p)) node) (i ⊕ 1) h (sibling-low i)
-    ∙ put-same (i ⊕ 1) (some (part (16 * j) 16 p)) node
+    ap (assign n (j + 1) (i / 2) p _) (ap (λ (x : ℕ). x ⊕ 1) (div-one i))
+    ∙ assign-stays n (j + 1) i p _ (i ⊕ 1) h (sibling-low i)
+    ∙ put-same (i ⊕ 1) _ node
     ∙ ap (λ (x : ℕ). some (part (16 * x) 16 p)) (sym (add-zero j))
 assign-path (suc n) j i p node (suc t) h lt =
-    ap (assign n (j + 1) (i / 2) p (put (i ⊕ 1) (some (part (16 * j) 16 p)) node)) (ap (λ (x : ℕ). x ⊕ 1) (sym (deeper i t)))
-    ∙ assign-path n (j + 1) (i / 2) p (put (i ⊕ 1) (some (part (16 * j) 16 p)) node) t (half-deep n i h) (omega arith)
+    ap (assign n (j + 1) (i / 2) p _) (ap (λ (x : ℕ). x ⊕ 1) (sym (deeper i t)))
+    ∙ assign-path n (j + 1) (i / 2) p _ t (half-deep n i h) (omega arith)
     ∙ ap (λ (x : ℕ). some (part (16 * x) 16 p)) more
   where
     more : j + 1 + t ≡ j + suc t
@@ -71,14 +68,14 @@ assign-hidden : (n j i : ℕ) (p : List ℕ) (node : ℕ → Option (List ℕ)) 
 unfolding assign
 assign-hidden zero j i p node t h le = refl
 assign-hidden (suc n) j i p node zero h le =
-    ap (assign n (j + 1) (i / 2) p (put (i ⊕ 1) (some (part (16 * j) 16 p)) node)) (div-one i)
-    ∙ assign-stays n (j + 1) i p (put (i ⊕ 1) (some (part (16 * j) 16 p)) node) i h (omega arith)
-    ∙ put-other (i ⊕ 1) (some (part (16 * j) 16 p)) node i (λ e. sibling-apart i (sym e))
+    ap (assign n (j + 1) (i / 2) p _) (div-one i)
+    ∙ assign-stays n (j + 1) i p _ i h (omega arith)
+    ∙ put-other (i ⊕ 1) _ node i (λ e. sibling-apart i (sym e))
     ∙ ap node (sym (div-one i))
 assign-hidden (suc n) j i p node (suc t) h le =
-    ap (assign n (j + 1) (i / 2) p (put (i ⊕ 1) (some (part (16 * j) 16 p)) node)) (sym (deeper i t))
-    ∙ assign-hidden n (j + 1) (i / 2) p (put (i ⊕ 1) (some (part (16 * j) 16 p)) node) t (half-deep n i h) (omega arith)
-    ∙ put-other (i ⊕ 1) (some (part (16 * j) 16 p)) node (i / 2 / 2 ^ t)
+    ap (assign n (j + 1) (i / 2) p _) (sym (deeper i t))
+    ∙ assign-hidden n (j + 1) (i / 2) p _ t (half-deep n i h) (omega arith)
+    ∙ put-other (i ⊕ 1) _ node (i / 2 / 2 ^ t)
     (λ e. omega (arith, sibling-low i, shr-le (i / 2) t, half-deep n i h, pow-pos n))
     ∙ ap node (deeper i t)
 
@@ -214,12 +211,3 @@ module _ (f : ℕ → List ℕ → List ℕ) where
         ap (λ (x : ℕ). row x (2 ^ D) read) (sym (one-mul (2 ^ D)))
         ∙ row-hidden D 0 1 hidden (zero-add D) (record { low = lit≤ tt; high = lit< tt }) (ap (λ (x : ℕ). x + hidden) (sym (one-mul (2 ^ D)))) lt
         (nodes-above 1 (lit< tt) ∙ ap start (sym up) ∙ start-hidden D (omega arith))
-
--- what the three algorithms are for: from the path that Open gives, PartiallyExpand makes what Expand made, with zeros at the hidden leaf
-pub partially-expand-open : (f : ℕ → List ℕ → List ℕ) → Keeps16 f → (d i : ℕ) (r δ : List ℕ) → length r ≡ 16 → length δ ≡ 16 → i < 2 ^ suc d
-    → ggmPartiallyExpand f (suc d) (flat (ggmOpen (suc d) (ggmNodes f (suc d) r δ) i)) i ≡ set (ggmExpand f (suc d) r δ) i zero16
-partially-expand-open f keeps d i r δ hr hd lt =
-    ap (λ (p : List (List ℕ)). ggmPartiallyExpand f (suc d) (flat p) i) (open-layers f d i r δ lt)
-    ∙ partially-expand-layers f (suc d) (flat (treePathOf f d i r δ)) i lt
-    ∙ rebuild-tree-all f keeps d i r δ hr hd lt
-    ∙ ap (λ (l : List (List ℕ)). set l i zero16) (sym (expand-layers f d r δ))

@@ -10,6 +10,9 @@ use Rattle.octets.specs.Lists.{flat, part, zero16}
 use Rattle.tree.specs.Tree.{leavesOf, pathOf, rebuildOf, treeOf, treePathOf, Keeps16}
 use Rattle.tree.proofs.Octets.{each-set, each-at, part-flat}
 use Rattle.tree.proofs.Lengths.{all-tree, length-leaves, length-tree}
+use Rattle.tree.specs.Layers.{ggmNodes, ggmExpand, ggmOpen, ggmPartiallyExpand}
+use Rattle.tree.proofs.Layers.{expand-layers, open-layers}
+use Rattle.tree.proofs.Partial.{partially-expand-layers}
 use Rattle.tree.proofs.Laws.{rebuild-leaves-all, rebuild-tree-all}
 
 -- ---- below a node
@@ -62,3 +65,14 @@ module _ (f : ℕ → List ℕ → List ℕ) (keeps : Keeps16 f) (d : ℕ) (r δ
 
     pub hidden-zero : part (16 * i) 16 (flat (rebuildOf f (suc d) 0 i (flat (treePathOf f d i r δ)))) ≡ zero16
     hidden-zero = rebuilt-at i hidden ∙ leaf-hidden
+
+-- ---- the algorithms as they stand
+
+-- from the path that Open gives, PartiallyExpand makes what Expand made, with zeros in the place of the hidden leaf
+pub partially-expand-open : (f : ℕ → List ℕ → List ℕ) → Keeps16 f → (d i : ℕ) (r δ : List ℕ) → length r ≡ 16 → length δ ≡ 16 → i < 2 ^ suc d
+    → ggmPartiallyExpand f (suc d) (flat (ggmOpen (suc d) (ggmNodes f (suc d) r δ) i)) i ≡ set (ggmExpand f (suc d) r δ) i zero16
+partially-expand-open f keeps d i r δ hr hd lt =
+    ap (λ (p : List (List ℕ)). ggmPartiallyExpand f (suc d) (flat p) i) (open-layers f d i r δ lt)
+    ∙ partially-expand-layers f (suc d) (flat (treePathOf f d i r δ)) i lt
+    ∙ rebuild-tree-all f keeps d i r δ hr hd lt
+    ∙ ap (λ (l : List (List ℕ)). set l i zero16) (sym (expand-layers f d r δ))
