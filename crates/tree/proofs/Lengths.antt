@@ -1,7 +1,7 @@
 -- How many seeds a tree, a path and a rebuilt tree have, and what holds of each of them. Assumes nothing.
-use mathlib.Core.Path.{_≡_, refl, ap₂, _∙_}
+use mathlib.Core.Path.{_≡_, refl, _∙_}
 use mathlib.Core.Bool.{Bool, true, false, cond}
-use mathlib.Core.List.{List, [], _∷_, _++_}
+use mathlib.Core.List.{List}
 use Prim.Native.Nat.{ℕ, zero, suc, _+_, _-_, _*_, _^_, _<_, _≤_}
 use native.Mathlib.Nat.{pow-suc}
 use native.Mathlib.Omega.{arith}
@@ -18,54 +18,36 @@ length-cond : (t : Bool) (a b : List (List ℕ)) (n : ℕ) → length a ≡ n �
 length-cond true a b n p q = p
 length-cond false a b n p q = q
 
-halves : (a b : List (List ℕ)) (d : ℕ) → length a ≡ 2 ^ d → length b ≡ 2 ^ d → length (a ++ b) ≡ 2 ^ suc d
-halves a b d p q = length-append a b ∙ ap₂ _+_ p q ∙ rw pow-suc (omega arith)
-
-one-more : (a : List (List ℕ)) (x : List ℕ) (d : ℕ) → length a ≡ d → length (a ++ (x ∷ [])) ≡ suc d
-one-more a x d p = length-append a (x ∷ []) ∙ omega arith
-
 -- ---- how many
 
 module _ (f : ℕ → List ℕ → List ℕ) where
   pub length-leaves : (d j : ℕ) (s : List ℕ) → length (leavesOf f d j s) ≡ 2 ^ d
   unfolding leavesOf
   length-leaves zero j s = refl
-  length-leaves (suc d) j s =
-      halves (leavesOf f d (j + 1) (leftOf f j s)) (leavesOf f d (j + 1) (rightOf f j s)) d
-      (length-leaves d (j + 1) (leftOf f j s)) (length-leaves d (j + 1) (rightOf f j s))
+  length-leaves (suc d) j s = simp (length-append, length-leaves d) (rw pow-suc (omega arith))
 
   pub length-tree : (d : ℕ) (r δ : List ℕ) → length (treeOf f d r δ) ≡ 2 ^ suc d
   unfolding treeOf
-  length-tree d r δ =
-      halves (leavesOf f d 1 r) (leavesOf f d 1 (xorB r δ)) d (length-leaves d 1 r) (length-leaves d 1 (xorB r δ))
+  length-tree d r δ = simp (length-append, length-leaves d) (rw pow-suc (omega arith))
 
   pub length-rebuild : (d j i : ℕ) (p : List ℕ) → length (rebuildOf f d j i p) ≡ 2 ^ d
   unfolding rebuildOf
   length-rebuild zero j i p = refl
   length-rebuild (suc d) j i p =
-      let a = leavesOf f d (j + 1) (part (16 * d) 16 p) in
-      let l = length-leaves d (j + 1) (part (16 * d) 16 p) in
-      length-cond (ltb i (2 ^ d)) (rebuildOf f d (j + 1) i p ++ a) (a ++ rebuildOf f d (j + 1) (i - 2 ^ d) p) (2 ^ suc d)
-      (halves (rebuildOf f d (j + 1) i p) a d (length-rebuild d (j + 1) i p) l)
-      (halves a (rebuildOf f d (j + 1) (i - 2 ^ d) p) d l (length-rebuild d (j + 1) (i - 2 ^ d) p))
+      length-cond (ltb i (2 ^ d)) _ _ (2 ^ suc d)
+      (simp (length-append, length-leaves d, length-rebuild d) (rw pow-suc (omega arith)))
+      (simp (length-append, length-leaves d, length-rebuild d) (rw pow-suc (omega arith)))
 
   pub count-path : (d j i : ℕ) (s : List ℕ) → length (pathOf f d j i s) ≡ d
   unfolding pathOf
   count-path zero j i s = refl
   count-path (suc d) j i s =
-      let a = pathOf f d (j + 1) i (leftOf f j s) in
-      let b = pathOf f d (j + 1) (i - 2 ^ d) (rightOf f j s) in
-      length-cond (ltb i (2 ^ d)) (a ++ (rightOf f j s ∷ [])) (b ++ (leftOf f j s ∷ [])) (suc d)
-      (one-more a (rightOf f j s) d (count-path d (j + 1) i (leftOf f j s)))
-      (one-more b (leftOf f j s) d (count-path d (j + 1) (i - 2 ^ d) (rightOf f j s)))
+      length-cond (ltb i (2 ^ d)) _ _ (suc d) (simp (length-append, count-path d) (omega arith)) (simp (length-append, count-path d) (omega arith))
 
   pub count-tree-path : (d i : ℕ) (r δ : List ℕ) → length (treePathOf f d i r δ) ≡ suc d
   unfolding treePathOf
   count-tree-path d i r δ =
-      let a = pathOf f d 1 i r in
-      let b = pathOf f d 1 (i - 2 ^ d) (xorB r δ) in
-      length-cond (ltb i (2 ^ d)) (a ++ (xorB r δ ∷ [])) (b ++ (r ∷ [])) (suc d)
-      (one-more a (xorB r δ) d (count-path d 1 i r)) (one-more b r d (count-path d 1 (i - 2 ^ d) (xorB r δ)))
+      length-cond (ltb i (2 ^ d)) _ _ (suc d) (simp (length-append, count-path d) (omega arith)) (simp (length-append, count-path d) (omega arith))
 
 -- ---- what f and xor keep holds of each seed that they make
 
