@@ -46,18 +46,18 @@ module _ (f : ℕ → List ℕ → List ℕ) where
     first : ℕ → List ℕ
     first = put 3 (xorB r δ) (put 2 r (λ k. []))
 
-    -- node[2] and node[3] stay
+    -- node[3] and node[2] stay
+    node-3 : ggmNodes f (suc d) r δ 3 ≡ xorB r δ
+    unfolding ggmNodes first
+    node-3 =
+        layers-above (child f) (deriveNode f) turn 1 (suc d - 1) 3 first (lit< tt) ∙ put-same 3 (xorB r δ) (put 2 r (λ k. []))
+
     node-2 : ggmNodes f (suc d) r δ 2 ≡ r
     unfolding ggmNodes first
     node-2 =
         layers-above (child f) (deriveNode f) turn 1 (suc d - 1) 2 first (lit< tt)
         ∙ put-other 3 (xorB r δ) (put 2 r (λ k. [])) 2 (λ e. omega arith)
         ∙ put-same 2 r (λ k. [])
-
-    node-3 : ggmNodes f (suc d) r δ 3 ≡ xorB r δ
-    unfolding ggmNodes first
-    node-3 =
-        layers-above (child f) (deriveNode f) turn 1 (suc d - 1) 3 first (lit< tt) ∙ put-same 3 (xorB r δ) (put 2 r (λ k. []))
 
     node-child : (j k c : ℕ) → c < 2 → 0 < j → j < suc d → Layer j k
         → ggmNodes f (suc d) r δ (2 * k + c) ≡ child f j c (ggmNodes f (suc d) r δ k) (first (2 * k + c))
