@@ -1,0 +1,49 @@
+-- `aes::store` meets its contract. Assumes nothing.
+use borrow.Author.Needs.{needs}
+use Rattle.aes.proofs.Blocks.{block-stored}
+use Rattle.aes.proofs.store.Statement.{statement}
+use Rattle.aes.proofs.store.Tie as tie
+
+store-word-requires : tie.Need-store-word-requires
+store-word-requires c κs = search needs
+
+add-store-word : tie.Need-add-store-word
+add-store-word c = search needs
+
+store-word-requires-2 : tie.Need-store-word-requires-2
+store-word-requires-2 c κs = search needs
+
+add-store-word-2 : tie.Need-add-store-word-2
+add-store-word-2 c = search needs
+
+store-word-requires-3 : tie.Need-store-word-requires-3
+store-word-requires-3 c κs = search needs
+
+add-store-word-3 : tie.Need-add-store-word-3
+add-store-word-3 c = search needs
+
+store-word-requires-4 : tie.Need-store-word-requires-4
+store-word-requires-4 c κs = search needs
+
+same-length : tie.Need-same-length
+same-length c = search needs
+
+returns : tie.Need-returns
+returns c =
+    let st = c .before .before .before .before .before .before .before .before .before .before .before .before .before .before .before .before .before in
+    block-stored (st .args .s .now) (st .args .p) (st .args .k)
+    (c .before .before .before .before .before .before .before .before .before .before .before .before .before .before .store-word .ensures) (c .before .before .before .before .before .before .before .before .before .before .store-word2 .ensures) (c .before .before .before .before .before .before .store-word3 .ensures) (c .before .before .store-word4 .ensures)
+
+pub store-spec : {M : Type 1} → statement M
+store-spec =
+    tie.close
+    (tie.spec
+    store-word-requires
+    add-store-word
+    store-word-requires-2
+    add-store-word-2
+    store-word-requires-3
+    add-store-word-3
+    store-word-requires-4
+    same-length
+    returns)

@@ -1,0 +1,3 @@
+pub mod Sbox
+pub mod Cipher
+pub mod Words
