@@ -1,0 +1,10 @@
+pub mod Symmetric
+pub mod Keys
+pub mod Challenge
+pub mod Trees
+pub mod Commit
+pub mod Alpha
+pub mod Scheme
+pub mod Points
+pub mod Unpacked
+pub mod Closed
