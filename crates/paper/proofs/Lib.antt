@@ -8,3 +8,4 @@ pub mod Scheme
 pub mod Points
 pub mod Unpacked
 pub mod Closed
+pub mod Examples

@@ -1,17 +1,20 @@
 -- All that the scheme's laws use of AES and SHAKE: lengths, and that outputs are bytes; and that the selectors differ. Assumes nothing.
-use mathlib.Core.Path.{_≡_, ap₂, _∙_}
+use mathlib.Core.Path.{_≡_, sym, ap₂, _∙_}
 use mathlib.Core.List.{List}
-use Prim.Native.Nat.{ℕ, _+_, _/_}
+use Prim.Native.Nat.{ℕ, _+_, _/_, _<_}
 use native.Mathlib.Omega.{arith}
+use mathlib.Core.Bool.{Bool}
+use lib.Dec.{T, eqb, eqb→eq}
+use Rattle.field.proofs.Linear.{below, below-at}
 use lib.ListN.{length, length-append}
 use Rattle.octets.specs.Xor.{xorB}
-use Rattle.octets.specs.Lists.{Bytes, part, joined}
+use Rattle.octets.specs.Lists.{Bytes, part, joined, vec}
 use Rattle.octets.proofs.Xor.{length-xorB}
 use Rattle.octets.proofs.Part.{length-part, length-joined}
 use Rattle.octets.proofs.Bounds.{bytes-append, bytes-part, bytes-joined, bytes-xorB, bytes-bytesOf}
 use Rattle.aes.proofs.Bounds.{length-aes128, bytes-aes128}
 use Rattle.shake.proofs.Shake.{length-shake128, bytes-shake128}
-use Rattle.paper.specs.Symmetric.{selectors, enc, xof, hash, tweakSalt, psi, seedDerive, seedCommit, prgBlock, prg, expand}
+use Rattle.paper.specs.Symmetric.{selectors, enc, xof, hash, tweakSalt, psi, seedDerive, seedCommit, prgBlock, prg, expand, selector, forKey, commitFirst}
 
 -- ---- Enc and XOF
 
@@ -86,3 +89,24 @@ bytes-prgBlock salt e s i p q = bytes-derive _ s (bytes-tweak salt expand e i p)
 pub bytes-prg : (salt : List ℕ) (e : ℕ) (s : List ℕ) (n : ℕ) → Bytes salt → Bytes s → Bytes (prg salt e s n)
 unfolding prg
 bytes-prg salt e s n p q = bytes-part 0 n _ (bytes-joined _ _ (λ i hi. bytes-prgBlock salt e s i p q))
+
+-- ---- selectors: from place a on, n of them count up from 0, so that they differ
+
+counts : ℕ → ℕ → Bool
+counts a n = below n (λ i. eqb (vec selectors (a + i)) i)
+
+counted : (a n : ℕ) → T (counts a n) → (i : ℕ) → i < n → selector (a + i) ≡ i
+unfolding counts selector
+counted a n t i h = eqb→eq _ _ (below-at n (λ i. eqb (vec selectors (a + i)) i) t i h)
+
+differ : (a n : ℕ) → T (counts a n) → (i j : ℕ) → i < n → j < n → selector (a + i) ≡ selector (a + j) → i ≡ j
+differ a n t i j hi hj e = sym (counted a n t i hi) ∙ e ∙ counted a n t j hj
+
+-- the nine of the sponge, and the four of the tweak
+pub hash-selectors-differ : (i j : ℕ) → i < 9 → j < 9 → selector (forKey + i) ≡ selector (forKey + j) → i ≡ j
+unfolding counts selectors
+hash-selectors-differ = differ 0 9 tt
+
+pub tweak-selectors-differ : (i j : ℕ) → i < 4 → j < 4 → selector (commitFirst + i) ≡ selector (commitFirst + j) → i ≡ j
+unfolding counts selectors
+tweak-selectors-differ = differ 9 4 tt
