@@ -90,7 +90,7 @@ module _ (mseed salt x : List ℕ) (hm : length mseed ≡ 16) (hx : length x ≡
 
     pub length-sent : (e : ℕ) → length (sentAt η mseed salt x e) ≡ 12
     unfolding sentAt
-    length-sent e = length-part 16 12 (correction η mseed salt x e) (omega (arith, length-correction e))
+    length-sent e = length-part _ 12 (correction η mseed salt x e) (omega (arith, length-correction e))
 
     pub correction-zero : (e b : ℕ) → e < 17 → b < 16 → vec (correction η mseed salt x e) b ≡ 0
     unfolding correction tapeAt

@@ -22,6 +22,22 @@ use Rattle.paper.proofs.Alpha.{r3-rows, length-alpha1, alpha0-same}
 use Rattle.paper.proofs.Keys.{satisfied-solves, length-solutionOf, length-sk, public-of-generated, generated-satisfied}
 use Rattle.paper.proofs.Challenge.{First, hidden-lt, first-some, first-more, first-short, first-place}
 
+-- ---- what acceptance means: the nonce passes, and both commitments are the checker's
+
+both : (p q : Bool) → (p && q) ≡ true → (p ≡ true) × (q ≡ true)
+both true q h = (refl, h)
+both false q h = (h, cc)
+
+pub accepts : (v : Variant) (pk msg salt c1 c2 a1 paths outs sent nonce : List ℕ) → verifParts v pk msg salt c1 c2 a1 paths outs sent nonce ≡ true
+    → (passes (challenge (transcript pk c1 c2 msg) nonce) ≡ true)
+    × (com1In salt paths outs sent (hiddenIn (challenge (transcript pk c1 c2 msg) nonce)) ≡ c1)
+    × (com2From (alpha0In v c1 (mseedEqOf pk) (yOf pk) salt paths sent a1 (hiddenIn (challenge (transcript pk c1 c2 msg) nonce))) a1 ≡ c2)
+unfolding verifParts checkChallenge checkCom1 checkCom2
+accepts v pk msg salt c1 c2 a1 paths outs sent nonce h =
+    let p = both _ _ h in
+    let q = both _ _ (p .0) in
+    (q .0, alike-eq _ _ (q .1), alike-eq _ _ (p .1))
+
 -- ---- the parts of a signature
 
 pub record Parses (v : Variant) (sig salt c1 c2 a1 paths outs sent nonce : List ℕ) : Type 0 where
@@ -193,22 +209,6 @@ module _ (v : Variant) (shape : HasRows v) (sk msg salt mseed : List ℕ) (hk : 
 
   pub length-sign : (tries : ℕ) (sig : List ℕ) → signOf v sk msg salt mseed tries ≡ some sig → length sig ≡ 3008 + 17 * v .eta
   length-sign tries sig e = each (λ s. length s ≡ 3008 + 17 * v .eta) tries sig e (λ n f. parsed n .size-is)
-
--- ---- what acceptance means: the nonce passes, and both commitments are the checker's
-
-both : (p q : Bool) → (p && q) ≡ true → (p ≡ true) × (q ≡ true)
-both true q h = (refl, h)
-both false q h = (h, cc)
-
-pub accepts : (v : Variant) (pk msg salt c1 c2 a1 paths outs sent nonce : List ℕ) → verifParts v pk msg salt c1 c2 a1 paths outs sent nonce ≡ true
-    → (passes (challenge (transcript pk c1 c2 msg) nonce) ≡ true)
-    × (com1In salt paths outs sent (hiddenIn (challenge (transcript pk c1 c2 msg) nonce)) ≡ c1)
-    × (com2From (alpha0In v c1 (mseedEqOf pk) (yOf pk) salt paths sent a1 (hiddenIn (challenge (transcript pk c1 c2 msg) nonce))) a1 ≡ c2)
-unfolding verifParts checkChallenge checkCom1 checkCom2
-accepts v pk msg salt c1 c2 a1 paths outs sent nonce h =
-    let p = both _ _ h in
-    let q = both _ _ (p .0) in
-    (q .0, alike-eq _ _ (q .1), alike-eq _ _ (p .1))
 
 -- ---- tries
 
