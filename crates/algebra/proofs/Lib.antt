@@ -1,4 +1,10 @@
+pub mod Opening
+pub mod Equation
+pub mod Only
+pub mod Batch
 pub mod Lines
-pub mod Fold
+pub mod Degree
 pub mod Pack
-pub mod Three
+pub mod Basis
+pub mod Points
+pub mod Fold

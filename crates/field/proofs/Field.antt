@@ -1,14 +1,14 @@
--- The laws of the products of K and F, and of the morphism from F to K. All but those of 1 and of `lift-injective` hold of all numbers.
--- Assumes nothing.
+-- The laws of the products of K and F, the ring rules for `simp`, and the laws of the morphism from F to K. All but those of 1 and
+-- `lift-injective` hold of all numbers. Assumes nothing.
 use mathlib.Core.Path.{_≡_, refl, sym, ap, ap₂, _∙_, subst}
 use mathlib.Core.Bool.{Bool, true, false}
-use Prim.Native.Nat.{ℕ, zero, suc, _+_, _*_, _/_, _%_, _^_, _<_, _≤_}
+use Prim.Native.Nat.{ℕ, _+_, _*_, _/_, _%_, _^_, _<_}
 use native.Mathlib.Nat.{mod-lt, zero-lt-suc, mod-eq-of-lt}
 use lib.Pow.{pow-pos, mod-mod-pow, field}
 use lib.Dec.{T, eqb, eqb→eq, lit<}
 use Rattle.octets.specs.Xor.{_⊕_}
 use Rattle.field.specs.Gf.{timesRoot, shiftAdd, mulIn, _⊗_, fmul, rhoInK, lift}
-use Rattle.octets.proofs.Xor.{⊕-assoc, ⊕-comm, ⊕-self, ⊕-eq, ⊕-zero-l, ⊕-zero-r, ⊕-swap, ⊕-lt, ⊕-shr, ⊕-mod, ⊕-bit-times}
+use Rattle.octets.proofs.Xor.{⊕-self, ⊕-eq, ⊕-lt, ⊕-shr, ⊕-bit-times, ⊕·sort}
 use Rattle.field.proofs.Linear.{Additive, additive-⊕, additive-zero, below, below-at, agree2, biadditive-agree}
 use Rattle.field.proofs.Product as product
 
@@ -21,48 +21,54 @@ k-commutes = tt
 k-small : 0x1b < 2 ^ 8
 k-small = lit< tt
 
-pub ⊗-⊕-l : (a b c : ℕ) → _⊗_ (a ⊕ b) c ≡ _⊗_ a c ⊕ _⊗_ b c
+pub ⊗-⊕-l : (a b c : ℕ) → (a ⊕ b) ⊗ c ≡ (a ⊗ c) ⊕ (b ⊗ c)
 unfolding _⊗_
 ⊗-⊕-l a b c = product.mul-⊕-l 7 0x1b a b c
 
-pub ⊗-⊕-r : (a b c : ℕ) → _⊗_ a (b ⊕ c) ≡ _⊗_ a b ⊕ _⊗_ a c
+pub ⊗-⊕-r : (a b c : ℕ) → a ⊗ (b ⊕ c) ≡ (a ⊗ b) ⊕ (a ⊗ c)
 unfolding _⊗_
 ⊗-⊕-r a b c = product.mul-⊕-r 7 0x1b a b c
 
-pub ⊗-comm : (a b : ℕ) → _⊗_ a b ≡ _⊗_ b a
+pub ⊗-comm : (a b : ℕ) → a ⊗ b ≡ b ⊗ a
 unfolding _⊗_
-⊗-comm a b = product.mul-comm' 7 0x1b k-small k-commutes a b
+⊗-comm a b = product.mul-comm 7 0x1b k-small k-commutes a b
 
-pub ⊗-assoc : (a b c : ℕ) → _⊗_ (_⊗_ a b) c ≡ _⊗_ a (_⊗_ b c)
+pub ⊗-assoc : (a b c : ℕ) → (a ⊗ b) ⊗ c ≡ a ⊗ (b ⊗ c)
 unfolding _⊗_
-⊗-assoc a b c = product.mul-assoc' 7 0x1b k-small k-commutes a b c
+⊗-assoc a b c = product.mul-assoc 7 0x1b k-small k-commutes a b c
 
-pub ⊗-lt : (a b : ℕ) → _⊗_ a b < 256
+pub ⊗-lt : (a b : ℕ) → a ⊗ b < 256
 unfolding _⊗_
 ⊗-lt a b = product.mul-lt 7 0x1b k-small a b
 
-pub ⊗-mod-l : (a b : ℕ) → _⊗_ (a % 256) b ≡ _⊗_ a b
+pub ⊗-mod-l : (a b : ℕ) → (a % 256) ⊗ b ≡ a ⊗ b
 unfolding _⊗_
 ⊗-mod-l a b = product.mul-mod-l 7 0x1b a b
 
-pub ⊗-mod-r : (a b : ℕ) → _⊗_ a (b % 256) ≡ _⊗_ a b
+pub ⊗-mod-r : (a b : ℕ) → a ⊗ (b % 256) ≡ a ⊗ b
 unfolding _⊗_
 ⊗-mod-r a b = product.mul-mod-r 7 0x1b a b
 
-pub ⊗-zero-l : (a : ℕ) → _⊗_ 0 a ≡ 0
+pub ⊗-zero-l : (a : ℕ) → 0 ⊗ a ≡ 0
 unfolding _⊗_
 ⊗-zero-l a = product.mul-zero-l 7 0x1b a
 
-pub ⊗-zero-r : (a : ℕ) → _⊗_ a 0 ≡ 0
+pub ⊗-zero-r : (a : ℕ) → a ⊗ 0 ≡ 0
 unfolding _⊗_
 ⊗-zero-r a = product.mul-zero-r 7 0x1b a
 
-pub ⊗-one-r : (a : ℕ) → a < 256 → _⊗_ a 1 ≡ a
+pub ⊗-one-r : (a : ℕ) → a < 256 → a ⊗ 1 ≡ a
 unfolding _⊗_
 ⊗-one-r a h = product.mul-one-r 7 0x1b a ∙ mod-eq-of-lt h
 
-pub ⊗-one-l : (a : ℕ) → a < 256 → _⊗_ 1 a ≡ a
+pub ⊗-one-l : (a : ℕ) → a < 256 → 1 ⊗ a ≡ a
 ⊗-one-l a h = ⊗-comm 1 a ∙ ⊗-one-r a h
+
+pub ⊗-left-comm : (a b c : ℕ) → a ⊗ (b ⊗ c) ≡ b ⊗ (a ⊗ c)
+⊗-left-comm a b c = sym (⊗-assoc a b c) ∙ ap (λ (x : ℕ). x ⊗ c) (⊗-comm a b) ∙ ⊗-assoc b a c
+
+-- for `simp`: an element of K as a sum of products, in a fixed order, with no term twice
+pub ruleset K·ring = (⊗-⊕-l, ⊗-⊕-r, ⊗-assoc, ⊗-comm, ⊗-left-comm, ⊗-zero-l, ⊗-zero-r, ⊕·sort)
 
 -- ξ, the polynomial's root, is 2
 root-one : timesRoot 7 0x1b 1 ≡ 2
@@ -94,11 +100,11 @@ fmul-⊕-r a b c = product.mul-⊕-r 3 0x3 a b c
 
 pub fmul-comm : (a b : ℕ) → fmul a b ≡ fmul b a
 unfolding fmul
-fmul-comm a b = product.mul-comm' 3 0x3 f-small f-commutes a b
+fmul-comm a b = product.mul-comm 3 0x3 f-small f-commutes a b
 
 pub fmul-assoc : (a b c : ℕ) → fmul (fmul a b) c ≡ fmul a (fmul b c)
 unfolding fmul
-fmul-assoc a b c = product.mul-assoc' 3 0x3 f-small f-commutes a b c
+fmul-assoc a b c = product.mul-assoc 3 0x3 f-small f-commutes a b c
 
 pub fmul-lt : (a b : ℕ) → fmul a b < 16
 unfolding fmul
@@ -112,20 +118,9 @@ pub fmul-mod-r : (a b : ℕ) → fmul a (b % 16) ≡ fmul a b
 unfolding fmul
 fmul-mod-r a b = product.mul-mod-r 3 0x3 a b
 
-pub fmul-zero-l : (a : ℕ) → fmul 0 a ≡ 0
-unfolding fmul
-fmul-zero-l a = product.mul-zero-l 3 0x3 a
-
-pub fmul-zero-r : (a : ℕ) → fmul a 0 ≡ 0
-unfolding fmul
-fmul-zero-r a = product.mul-zero-r 3 0x3 a
-
 pub fmul-one-r : (a : ℕ) → a < 16 → fmul a 1 ≡ a
 unfolding fmul
 fmul-one-r a h = product.mul-one-r 3 0x3 a ∙ mod-eq-of-lt h
-
-pub fmul-one-l : (a : ℕ) → a < 16 → fmul 1 a ≡ a
-fmul-one-l a h = fmul-comm 1 a ∙ fmul-one-r a h
 
 -- ---- the morphism
 
@@ -136,8 +131,8 @@ pub lift-⊕ : (a b : ℕ) → lift (a ⊕ b) ≡ lift a ⊕ lift b
 unfolding lift
 lift-⊕ =
     additive-⊕ _ _
-    (additive-⊕ _ _ (additive-⊕ _ _ (λ a b. ⊕-bit-times a b 1) (digit-⊕ 1 rhoInK)) (digit-⊕ 2 (_⊗_ rhoInK rhoInK)))
-    (digit-⊕ 3 (_⊗_ rhoInK (_⊗_ rhoInK rhoInK)))
+    (additive-⊕ _ _ (additive-⊕ _ _ (λ a b. ⊕-bit-times a b 1) (digit-⊕ 1 rhoInK)) (digit-⊕ 2 (rhoInK ⊗ rhoInK)))
+    (digit-⊕ 3 (rhoInK ⊗ (rhoInK ⊗ rhoInK)))
 
 -- digit i of the j + 1 + i low digits
 digit-mod : (a j i : ℕ) → a % 2 ^ (j + 1 + i) / 2 ^ i % 2 ≡ a / 2 ^ i % 2
@@ -149,23 +144,23 @@ lift-mod a =
     ap₂ _⊕_
     (ap₂ _⊕_
     (ap₂ _⊕_ (ap (λ (x : ℕ). x * 1) (mod-mod-pow a 3 1)) (ap (λ (x : ℕ). x * rhoInK) (digit-mod a 2 1)))
-    (ap (λ (x : ℕ). x * _⊗_ rhoInK rhoInK) (digit-mod a 1 2)))
-    (ap (λ (x : ℕ). x * _⊗_ rhoInK (_⊗_ rhoInK rhoInK)) (digit-mod a 0 3))
+    (ap (λ (x : ℕ). x * (rhoInK ⊗ rhoInK)) (digit-mod a 1 2)))
+    (ap (λ (x : ℕ). x * (rhoInK ⊗ (rhoInK ⊗ rhoInK))) (digit-mod a 0 3))
 
-lift-multiplies : T (agree2 (λ a b. lift (fmul a b)) (λ a b. _⊗_ (lift a) (lift b)) 4 4)
+lift-multiplies : T (agree2 (λ a b. lift (fmul a b)) (λ a b. lift a ⊗ lift b) 4 4)
 unfolding lift rhoInK fmul _⊗_ mulIn shiftAdd timesRoot _⊕_
 lift-multiplies = tt
 
-low-lift-mul : (a b : ℕ) → a < 16 → b < 16 → lift (fmul a b) ≡ _⊗_ (lift a) (lift b)
+low-lift-mul : (a b : ℕ) → a < 16 → b < 16 → lift (fmul a b) ≡ lift a ⊗ lift b
 low-lift-mul =
-    biadditive-agree (λ a b. lift (fmul a b)) (λ a b. _⊗_ (lift a) (lift b))
+    biadditive-agree (λ a b. lift (fmul a b)) (λ a b. lift a ⊗ lift b)
     (λ b x y. ap lift (fmul-⊕-l x y b) ∙ lift-⊕ (fmul x b) (fmul y b))
     (λ a x y. ap lift (fmul-⊕-r a x y) ∙ lift-⊕ (fmul a x) (fmul a y))
-    (λ b x y. ap (λ (z : ℕ). _⊗_ z (lift b)) (lift-⊕ x y) ∙ ⊗-⊕-l (lift x) (lift y) (lift b))
-    (λ a x y. ap (_⊗_ (lift a)) (lift-⊕ x y) ∙ ⊗-⊕-r (lift a) (lift x) (lift y))
+    (λ b x y. ap (λ (z : ℕ). z ⊗ lift b) (lift-⊕ x y) ∙ ⊗-⊕-l (lift x) (lift y) (lift b))
+    (λ a x y. ap (lift a ⊗_) (lift-⊕ x y) ∙ ⊗-⊕-r (lift a) (lift x) (lift y))
     4 4 lift-multiplies
 
-pub lift-mul : (a b : ℕ) → lift (fmul a b) ≡ _⊗_ (lift a) (lift b)
+pub lift-mul : (a b : ℕ) → lift (fmul a b) ≡ lift a ⊗ lift b
 lift-mul a b =
     sym (ap lift (fmul-mod-l a (b % 16) ∙ fmul-mod-r a b))
     ∙ low-lift-mul (a % 16) (b % 16) (mod-lt a (pow-pos 4)) (mod-lt b (pow-pos 4))

@@ -1,18 +1,16 @@
 -- Each element of K but 0 has an inverse, by a computed test at the 256 elements; so K has no zero divisors.
 -- Assumes nothing.
-use mathlib.Core.Path.{_≡_, refl, sym, ap, ap₂, _∙_, subst}
+use mathlib.Core.Path.{_≡_, sym, ap, _∙_, subst}
 use mathlib.Core.Bool.{Bool, true, false}
 use mathlib.Core.List.{List, [], _∷_}
 use lib.ListN.{getD}
-use Prim.Native.Nat.{ℕ, zero, suc, _+_, _<_, _≤_, _^_}
-use native.Mathlib.Omega.{arith}
+use Prim.Native.Nat.{ℕ, _<_}
 use lib.Dec.{T, eqb, eqb→eq}
 use borrow.Author.Tests.{ne-eqb}
 use Rattle.octets.specs.Xor.{_⊕_}
 use Rattle.field.specs.Gf.{_⊗_, mulIn, shiftAdd, timesRoot}
-use Rattle.octets.proofs.Xor.{⊕-eq, ⊕-self, ⊕·sort}
 use Rattle.field.proofs.Linear.{below, below-at}
-use Rattle.field.proofs.Field.{⊗-comm, ⊗-assoc, ⊗-zero-r, ⊗-one-l}
+use Rattle.field.proofs.Field.{⊗-assoc, ⊗-zero-r, ⊗-one-l}
 
 -- each element's inverse, and 0 for 0
 unfoldable pub inverses : List ℕ

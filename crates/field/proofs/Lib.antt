@@ -2,6 +2,7 @@ pub mod Linear
 pub mod Product
 pub mod Field
 pub mod Steps
+pub mod Examples
 pub mod Inverse
 pub mod Sum
 pub mod Octets

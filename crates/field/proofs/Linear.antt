@@ -3,15 +3,15 @@
 -- Assumes nothing.
 use mathlib.Core.Path.{_≡_, refl, sym, ap, ap₂, _∙_, subst}
 use mathlib.Core.Bool.{Bool, true, false}
-use Prim.Native.Nat.{ℕ, zero, suc, _+_, _*_, _/_, _%_, _^_, _<_, _≤_}
-use native.Mathlib.Nat.{mod-lt, zero-lt-suc, zero-mul, one-mul, le-of-suc-le-suc, not-suc-le-zero, div-lt-iff-lt-mul, pow-suc, mul-comm}
+use Prim.Native.Nat.{ℕ, zero, suc, _*_, _/_, _%_, _^_, _<_}
+use native.Mathlib.Nat.{mod-lt, zero-mul, one-mul, le-of-suc-le-suc, not-suc-le-zero, div-lt-iff-lt-mul, pow-suc, mul-comm}
 use native.Mathlib.Omega.{arith}
 use lib.Arith.{lt-one}
 use lib.Pow.{pow-pos}
 use lib.Dec.{T, eqb, eqb→eq}
 use borrow.Author.Tests.{eqb-true, eqb-false}
 use Rattle.octets.specs.Xor.{_⊕_}
-use Rattle.octets.proofs.Xor.{⊕-self, ⊕-zero-r, ⊕-split, ⊕-swap, ⊕-cancel-self}
+use Rattle.octets.proofs.Xor.{⊕-self, ⊕-split, ⊕-swap, ⊕-cancel-self}
 
 abbrev pub Additive : (ℕ → ℕ) → Type 0
 Additive f = (a b : ℕ) → f (a ⊕ b) ≡ f a ⊕ f b

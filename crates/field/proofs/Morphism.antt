@@ -1,7 +1,7 @@
 -- The morphism from F to K as the code works it out: by the digits of its argument, with the powers of ρ's image written out.
 -- Assumes nothing.
-use mathlib.Core.Path.{_≡_, refl, sym, ap, ap₂, _∙_}
-use Prim.Native.Nat.{ℕ, _+_, _*_, _/_, _%_, _^_}
+use mathlib.Core.Path.{_≡_, refl, sym, ap, ap₂}
+use Prim.Native.Nat.{ℕ, _*_, _/_, _%_}
 use native.Mathlib.Nat.{mul-one}
 use lib.Bits.{bitXor}
 use Rattle.octets.specs.Xor.{_⊕_}

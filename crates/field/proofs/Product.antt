@@ -1,17 +1,16 @@
 -- The laws of the product, for both fields at once: k is 7 or 3, `low` the polynomial less its leading term.
 -- Assumes nothing.
-use mathlib.Core.Path.{_≡_, refl, sym, ap, ap₂, _∙_, subst}
+use mathlib.Core.Path.{_≡_, refl, sym, ap, ap₂, _∙_}
 use mathlib.Core.Bool.{Bool}
-use Prim.Native.Nat.{ℕ, zero, suc, _+_, _*_, _/_, _%_, _^_, _<_, _≤_}
-use native.Mathlib.Nat.{mod-lt, zero-lt-suc, zero-mul, one-mul, mod-mod, mod-eq-of-lt, pow-suc, mul-comm, add-comm, lt-of-le-of-lt, mul-zero}
-use native.Mathlib.Numerals.{add-one}
+use Prim.Native.Nat.{ℕ, zero, suc, _+_, _*_, _/_, _%_, _^_, _<_}
+use native.Mathlib.Nat.{mod-lt, zero-lt-suc, zero-mul, one-mul, mod-mod, mod-eq-of-lt, pow-suc}
 use native.Mathlib.Omega.{arith}
 use lib.Pow.{pow-pos, mod-mod-pow, field}
-use lib.Dec.{T, eqb, eqb→eq}
+use lib.Dec.{T}
 use Rattle.octets.specs.Xor.{_⊕_}
 use Rattle.field.specs.Gf.{timesRoot, shiftAdd, mulIn}
-use Rattle.octets.proofs.Xor.{⊕-assoc, ⊕-comm, ⊕-self, ⊕-zero-l, ⊕-zero-r, ⊕-swap, ⊕-lt, ⊕-double, ⊕-shr, ⊕-mod, ⊕-bit-times, bit-times-⊕}
-use Rattle.field.proofs.Linear.{Additive, both, below, below-at, additive-zero, additive-bit, agree2, biadditive-agree}
+use Rattle.octets.proofs.Xor.{⊕-self, ⊕-zero-r, ⊕-swap, ⊕-lt, ⊕-double, ⊕-shr, ⊕-mod, ⊕-bit-times, bit-times-⊕}
+use Rattle.field.proofs.Linear.{Additive, additive-zero, additive-bit, agree2, biadditive-agree}
 
 -- ---- the root
 
@@ -23,9 +22,6 @@ module _ (k low : ℕ) where
       (ap (λ (x : ℕ). x * 2) (⊕-mod k a b) ∙ ⊕-double (a % 2 ^ k) (b % 2 ^ k))
       (ap (λ (x : ℕ). x % 2 * low) (⊕-shr k a b) ∙ ⊕-bit-times (a / 2 ^ k) (b / 2 ^ k) low)
       ∙ ⊕-swap (a % 2 ^ k * 2) (b % 2 ^ k * 2) (a / 2 ^ k % 2 * low) (b / 2 ^ k % 2 * low)
-
-  pub root-zero : timesRoot k low 0 ≡ 0
-  root-zero = additive-zero (timesRoot k low) root-⊕
 
   -- the root's product reads the k + 1 low digits
   pub root-mod : (a : ℕ) → timesRoot k low (a % 2 ^ suc k) ≡ timesRoot k low a
@@ -135,8 +131,8 @@ module _ (k low : ℕ) (small : low < 2 ^ suc k) (test : T (commutes k low)) whe
       biadditive-agree (mulIn k low) (λ x y. mulIn k low y x)
       (λ y. λ p q. mul-⊕-l k low p q y) (mul-⊕-r k low) (mul-⊕-r k low) (λ x. λ p q. mul-⊕-l k low p q x) (suc k) (suc k) test a b ha hb
 
-  pub mul-comm' : (a b : ℕ) → mulIn k low a b ≡ mulIn k low b a
-  mul-comm' a b =
+  pub mul-comm : (a b : ℕ) → mulIn k low a b ≡ mulIn k low b a
+  mul-comm a b =
       sym (mul-mod-l k low a b) ∙ sym (mul-mod-r k low (a % 2 ^ suc k) b)
       ∙ low-comm (a % 2 ^ suc k) (b % 2 ^ suc k) (mod-lt a (pow-pos (suc k))) (mod-lt b (pow-pos (suc k)))
       ∙ mul-mod-l k low b (a % 2 ^ suc k) ∙ mul-mod-r k low b a
@@ -148,10 +144,10 @@ module _ (k low : ℕ) (small : low < 2 ^ suc k) (test : T (commutes k low)) whe
       ∙ shiftAdd-root k low (suc k) (a % 2 ^ suc k) b
 
   pub mul-root-r : (a b : ℕ) → mulIn k low a (timesRoot k low b) ≡ timesRoot k low (mulIn k low a b)
-  mul-root-r a b = mul-comm' a (timesRoot k low b) ∙ mul-root-l b a ∙ ap (timesRoot k low) (mul-comm' b a)
+  mul-root-r a b = mul-comm a (timesRoot k low b) ∙ mul-root-l b a ∙ ap (timesRoot k low) (mul-comm b a)
 
-  pub mul-assoc' : (a b c : ℕ) → mulIn k low (mulIn k low a b) c ≡ mulIn k low a (mulIn k low b c)
-  mul-assoc' a b c = sym (through ∙ ap (λ (x : ℕ). shiftAdd k low (suc k) x c) (mul-mod-r k low a b) ∙ back)
+  pub mul-assoc : (a b c : ℕ) → mulIn k low (mulIn k low a b) c ≡ mulIn k low a (mulIn k low b c)
+  mul-assoc a b c = sym (through ∙ ap (λ (x : ℕ). shiftAdd k low (suc k) x c) (mul-mod-r k low a b) ∙ back)
     where
       through : mulIn k low a (mulIn k low b c) ≡ shiftAdd k low (suc k) (mulIn k low a (b % 2 ^ suc k)) c
       through = unfold mulIn in shiftAdd-through k low (mulIn k low a) (mul-⊕-r k low a) (mul-root-r a) (suc k) (b % 2 ^ suc k) c

@@ -1,6 +1,5 @@
--- The laws of `sum`: what is additive passes through it.
--- Assumes nothing.
-use mathlib.Core.Path.{_≡_, refl, sym, ap, ap₂, _∙_, subst, fun-ext}
+-- The laws of `sum`: what is additive passes through it, and a place may be left out. Assumes nothing.
+use mathlib.Core.Path.{_≡_, refl, sym, ap, ap₂, _∙_, subst}
 use mathlib.Core.Bool.{Bool, true, false, cond}
 use Prim.Native.Nat.{ℕ, zero, suc, _+_, _<_, _≤_, _^_}
 use native.Mathlib.Nat.{not-suc-le-zero}
@@ -9,19 +8,11 @@ use lib.Pow.{pow-pos}
 use lib.Dec.{eqb}
 use borrow.Author.Tests.{eqb-true, eqb-false, eq-eqb, ne-eqb}
 use Rattle.octets.specs.Xor.{_⊕_}
-use Rattle.field.specs.Gf.{_⊗_, lift}
-use Rattle.octets.proofs.Xor.{⊕-assoc, ⊕-comm, ⊕-left-comm, ⊕-zero-l, ⊕-zero-r, ⊕-self, ⊕-cancel-self, ⊕-swap, ⊕-lt, ⊕·sort}
+use Rattle.field.specs.Gf.{_⊗_}
+use Rattle.octets.proofs.Xor.{⊕-assoc, ⊕-zero-r, ⊕-self, ⊕-swap, ⊕-lt, ⊕·sort}
 use Rattle.field.proofs.Linear.{Additive, additive-zero}
-use Rattle.field.proofs.Field.{⊗-⊕-l, ⊗-⊕-r, ⊗-comm, ⊗-assoc, ⊗-zero-l, ⊗-zero-r, ⊗-lt}
-use Rattle.field.specs.Vec.{sum, skip, dot, mat}
-
-pub ⊗-left-comm : (a b c : ℕ) → a ⊗ (b ⊗ c) ≡ b ⊗ (a ⊗ c)
-⊗-left-comm a b c = sym (⊗-assoc a b c) ∙ ap (λ (x : ℕ). x ⊗ c) (⊗-comm a b) ∙ ⊗-assoc b a c
-
--- for `simp`: an element of K as a sum of products, in a fixed order, with no term twice
-pub ruleset K·ring = (⊗-⊕-l, ⊗-⊕-r, ⊗-assoc, ⊗-comm, ⊗-left-comm, ⊗-zero-l, ⊗-zero-r, ⊕·sort)
-
--- ---- sums
+use Rattle.field.proofs.Field.{⊗-⊕-l, ⊗-⊕-r, ⊗-zero-l, ⊗-lt}
+use Rattle.field.specs.Vec.{sum, skip, dot}
 
 pub sum-ext : (n : ℕ) (f g : ℕ → ℕ) → ((i : ℕ) → i < n → f i ≡ g i) → sum n f ≡ sum n g
 unfolding sum
@@ -114,27 +105,10 @@ sum-skip (suc n) s f h = go (sum-skip n s f) (eqb n s) refl
         rw skip-other (simp ⊕·sort (rw (← ih (omega arith)) (simp ⊕·sort)))
 
 -- the place left out is not read
-pub sum-skip-ext : (n s : ℕ) (f g : ℕ → ℕ) → ((k : ℕ) → k < n → (k ≡ s → ⊥) → f k ≡ g k) → (k : ℕ) → k < n → skip s f k ≡ skip s g k
-sum-skip-ext n s f g h k hk =
-    go (eqb k s) refl
-  where
-    go : (t : Bool) → eqb k s ≡ t → skip s f k ≡ skip s g k
-    go true e = let q : k ≡ s = eqb-true k s e in rw (q, skip-same, skip-same)
-    go false e =
-        let ne : k ≡ s → ⊥ = eqb-false k s e in
-        skip-other s f k ne ∙ h k hk ne ∙ sym (skip-other s g k ne)
-
--- the weighted sum as document 001's ComputeFolding makes it: what is added at each turn is the sum so far times the step from this weight to
--- the next. Where w n is 0, the second part vanishes.
-folding-step : (a w w' s t : ℕ) → a ⊕ (w ⊗ s) ⊕ (w ⊗ t) ≡ a ⊕ ((w ⊕ w') ⊗ (s ⊕ t)) ⊕ (w' ⊗ (s ⊕ t))
-folding-step a w w' s t = simp K·ring
-
-pub folding : (n : ℕ) (w s : ℕ → ℕ) → sum n (λ k. w k ⊗ s k) ≡ sum n (λ k. (w k ⊕ w (suc k)) ⊗ sum (suc k) s) ⊕ (w n ⊗ sum n s)
-unfolding sum
-folding zero w s = simp K·ring
-folding (suc n) w s =
-    ap (λ (z : ℕ). z ⊕ (w n ⊗ s n)) (folding n w s)
-    ∙ folding-step (sum n (λ k. (w k ⊕ w (suc k)) ⊗ sum (suc k) s)) (w n) (w (suc n)) (sum n s) (s n)
+pub skip-ext : (n s : ℕ) (f g : ℕ → ℕ) → ((k : ℕ) → k < n → (k ≡ s → ⊥) → f k ≡ g k) → (k : ℕ) → k < n → skip s f k ≡ skip s g k
+skip-ext n s f g h k hk =
+    skip-cases (λ k. k < n → skip s f k ≡ skip s g k) s k (λ hs. skip-same s f ∙ sym (skip-same s g))
+    (λ ne hk. skip-other s f k ne ∙ h k hk ne ∙ sym (skip-other s g k ne)) hk
 
 -- sums of elements are elements
 pub sum-lt : (b n : ℕ) (f : ℕ → ℕ) → ((i : ℕ) → i < n → f i < 2 ^ b) → sum n f < 2 ^ b

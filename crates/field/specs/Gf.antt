@@ -1,11 +1,10 @@
 -- The fields of 256 and of 16 elements, as document 001 has them (section 2.3, and table 5 of section 3.1): an element is the number
 -- whose binary digits are its coefficients, lowest first. K = F2[ξ]/(ξ^8 + ξ^4 + ξ^3 + ξ + 1), F = F2[ρ]/(ρ^4 + ρ + 1).
 -- The sum of two elements, in either field, is `_⊕_`. Every product reads the low 8 (or 4) digits of its operands alone, so the laws hold
--- of all numbers.
+-- of all numbers. Definitions only.
 use Prim.Native.Nat.{ℕ, zero, suc, _*_, _/_, _%_, _^_}
 use Rattle.octets.specs.Xor.{_⊕_}
 
-infixl 70 _⊗_
 -- the polynomial's root times a, in the field of 2 ^ (k + 1) elements: the digits move up by one, and the one that leaves, digit k,
 -- comes back as `low`, the polynomial less its leading term
 unfoldable pub timesRoot : ℕ → ℕ → ℕ → ℕ
@@ -21,8 +20,9 @@ unfoldable pub mulIn : ℕ → ℕ → ℕ → ℕ → ℕ
 mulIn k low a b = shiftAdd k low (suc k) (a % 2 ^ suc k) b
 
 -- the product in K: 0x11b less its leading term is 0x1b
+infixl 70 _⊗_
 unfoldable pub _⊗_ : ℕ → ℕ → ℕ
-_⊗_ a b = mulIn 7 0x1b a b
+a ⊗ b = mulIn 7 0x1b a b
 
 -- the product in F: 0x13 less its leading term is 0x3
 unfoldable pub fmul : ℕ → ℕ → ℕ
@@ -35,5 +35,4 @@ rhoInK = 0xe0
 -- the morphism from F to K: of e0 + e1 ρ + e2 ρ^2 + e3 ρ^3, the same with ρ's image for ρ
 unfoldable pub lift : ℕ → ℕ
 lift e =
-    (e % 2 * 1) ⊕ (e / 2 ^ 1 % 2 * rhoInK) ⊕ (e / 2 ^ 2 % 2 * _⊗_ rhoInK rhoInK)
-    ⊕ (e / 2 ^ 3 % 2 * _⊗_ rhoInK (_⊗_ rhoInK rhoInK))
+    (e % 2 * 1) ⊕ (e / 2 ^ 1 % 2 * rhoInK) ⊕ (e / 2 ^ 2 % 2 * (rhoInK ⊗ rhoInK)) ⊕ (e / 2 ^ 3 % 2 * (rhoInK ⊗ (rhoInK ⊗ rhoInK)))

@@ -1,8 +1,8 @@
 -- Sums, products of vectors and of a matrix with a vector, over the field K of 256 elements.
 -- A vector is a function from places to elements, and a length is said only where a sum ends or a list is made; a list is a vector by
 -- `vec` and `view`. Definitions only.
-use mathlib.Core.List.{List, [], _∷_}
-use mathlib.Core.Bool.{Bool, true, false, cond}
+use mathlib.Core.List.{List}
+use mathlib.Core.Bool.{cond}
 use Prim.Native.Nat.{ℕ, zero, suc, _+_, _*_, _/_, _%_, _^_}
 use lib.Dec.{eqb}
 use lib.ListN.{getD}
@@ -43,9 +43,7 @@ dot n f g = sum n (λ i. f i ⊗ g i)
 abbrev pub mat : (ℕ → ℕ) → (ℕ → ℕ → ℕ) → (ℕ → ℕ) → ℕ → ℕ
 mat w A v j = dot (w j) (A j) v
 
--- f at place s, and 0 elsewhere
-unfoldable pub only : ℕ → (ℕ → ℕ) → ℕ → ℕ
-only s f k = cond (eqb k s) (f k) 0
+-- ---- vectors over F in lists of bytes
 
 -- element i of a list of bytes that hold two elements of F each, the lower half first
 unfoldable pub half : List ℕ → ℕ → ℕ

@@ -1,5 +1,5 @@
 -- `field::lifted` meets its contract: `lift` reads the low half of what the shift leaves. Assumes nothing.
-use mathlib.Core.Path.{_≡_, sym, _∙_}
+use mathlib.Core.Path.{sym, _∙_}
 use Rattle.field.specs.Vec.{half, lifted}
 use Rattle.field.proofs.Field.{lift-mod}
 use borrow.Author.Needs.{needs}
