@@ -8,3 +8,4 @@ pub mod Pack
 pub mod Basis
 pub mod Points
 pub mod Fold
+pub mod Examples
