@@ -233,3 +233,19 @@ pub fn expand(t: &[u32; 1024], key: Cols) -> [u8; 176]
     }
     w
 }
+
+// Sixteen bytes as a block.
+pub fn from_bytes(x: [u8; 16]) -> Cols
+    ensures { λ r. ⌜ blockOf r ≡ x ⌝ }
+{
+    load(&x, 0)
+}
+
+// A block as sixteen bytes.
+pub fn to_bytes(k: Cols) -> [u8; 16]
+    ensures { λ r. ⌜ r ≡ blockOf k ⌝ }
+{
+    let mut r = [0u8; 16];
+    store(&mut r, 0, k);
+    r
+}
