@@ -11,10 +11,12 @@ use Rattle.octets.proofs.Xor.{⊕-zero-l}
 use Rattle.field.specs.Gf.{_⊗_}
 use Rattle.field.specs.Vec.{sum, skip}
 use Rattle.field.proofs.Field.{⊗-zero-l}
-use Rattle.algebra.proofs.Lines.{complete-tab, value-spread}
+use Rattle.algebra.proofs.Opening.{value-spread}
+use Rattle.algebra.proofs.Lines.{complete-tab}
 use Rattle.paper.specs.Keys.{equation}
 use Rattle.field.specs.Vec.{lifted}
-use Rattle.paper.specs.Commit.{point, xPart, uPart, sharesAt, sentAt, pathAt, tapeIn, correctionIn, xEval, uEval}
+use Rattle.algebra.specs.Folding.{point}
+use Rattle.paper.specs.Commit.{xPart, uPart, sharesAt, sentAt, pathAt, tapeIn, correctionIn, xEval, uEval}
 use Rattle.paper.specs.Alpha.{Variant, r3, r5, HasRows, settingOf, alpha0At, alpha1At, alpha0In}
 use Rattle.octets.proofs.Part.{part-joined}
 use Rattle.paper.proofs.Commit.{tape-same, correction-same, lifted-is}

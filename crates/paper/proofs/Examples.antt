@@ -8,7 +8,7 @@ use Rattle.field.specs.Gf.{_⊗_}
 use Rattle.aes.specs.Sbox.{sbox}
 use Rattle.aes.proofs.Examples as aes
 use Rattle.paper.specs.Symmetric.{selectors, selector, derive, tweakSalt, psi}
-use Rattle.paper.specs.Commit.{point}
+use Rattle.algebra.specs.Folding.{point}
 
 -- 1 to 4: the Gray code of 0, 1, 2, 3
 pub gray-0-to-3 : (point 0 ≡ 0) × (point 1 ≡ 1) × (point 2 ≡ 3) × (point 3 ≡ 2)

@@ -5,7 +5,6 @@ pub mod Trees
 pub mod Commit
 pub mod Alpha
 pub mod Scheme
-pub mod Points
 pub mod Unpacked
 pub mod Closed
 pub mod Examples

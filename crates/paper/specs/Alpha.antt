@@ -9,7 +9,8 @@ use Rattle.field.specs.Vec.{grid, lifted}
 use Rattle.algebra.specs.Line.{Batch, none, rows, batch, IsRow, Setting, z0, z1, zAt}
 use Rattle.paper.specs.Symmetric.{xof, hash, forAlphas, forGamma}
 use Rattle.paper.specs.Keys.{equation}
-use Rattle.paper.specs.Commit.{point, u0At, u1At, x0At, xEval, uEval}
+use Rattle.algebra.specs.Folding.{point}
+use Rattle.paper.specs.Commit.{u0At, u1At, x0At, xEval, uEval}
 
 -- three rounds or five: η, and Γ of com_1 (lines 1 to 4 of algorithms 6 and 8)
 pub record Variant : Type 0 where

@@ -9,13 +9,10 @@ use Rattle.octets.specs.Xor.{_⊕_}
 use Rattle.octets.specs.Lists.{vec, tab, part, joined, flat, zero16}
 use Rattle.field.specs.Gf.{_⊗_}
 use Rattle.field.specs.Vec.{sum, skip, lifted}
+use Rattle.algebra.specs.Folding.{point}
 use Rattle.algebra.specs.Line.{Shares, constantOf, correctionOf}
 use Rattle.tree.specs.Tree.{treeOf, treePathOf, rebuildOf}
 use Rattle.paper.specs.Symmetric.{tweakSalt, seedDerive, seedCommit, prg, hash, commitFirst, derive, forLeaves, forCommitment}
-
--- ω_k (3.1): the Gray code of k
-unfoldable pub point : ℕ → ℕ
-point k = k ⊕ (k / 2)
 
 -- ---- what signer and checker do alike
 
