@@ -4,7 +4,7 @@ use mathlib.Core.Bool.{Bool, true, false, cond, _&&_, _||_, and-false, or-true, 
 use Prim.Native.Nat.{ℕ, _+_, _-_, _≤_, _<_}
 use native.Mathlib.Omega.{arith}
 use borrow.Author.Tests.{le-leb, lt-leb, leb-true, lt-ltb, le-ltb, ltb-true, ltb-false}
-use lib.Dec.{leb, ltb, eqb, lit<}
+use lib.Dec.{leb, ltb, lit<}
 use Rattle.cells.specs.Character.{between, classOf, numberIn, valueIn, isHex, hexValue}
 use Rattle.cells.specs.Cell.{hexChar}
 use Rattle.cells.specs.declared.Class.{Class}

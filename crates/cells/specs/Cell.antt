@@ -13,7 +13,7 @@ abbrev pub keyLength : ℕ
 keyLength = 60
 
 abbrev pub cellLength : ℕ
-cellLength = 120
+cellLength = 2 * keyLength
 
 -- ---- texts
 

@@ -8,7 +8,7 @@ ghost use Rattle.cells.specs.Cell.{allHex, readBytes, hexChar, writeText
 
 const KEY: usize = 60;
 
-const CELL: usize = 120;
+const CELL: usize = 2 * KEY;
 
 // The classes of a character: 0 to 9, a to f, A to F, each with the digit's value, and anything else.
 enum Class {

@@ -8,10 +8,10 @@ use Rattle.cells.proofs.read_cell.Statement.{statement}
 use Rattle.cells.proofs.read_cell.Tie as tie
 
 returns : tie.Need-returns
-returns c = read-1 (c .if1 .taken)
+returns c = read-1 (λ e. omega arith)
 
 returns-2 : tie.Need-returns-2
-returns-2 c = read-7 (c .before .if1 .left) (c .if2 .taken)
+returns-2 c = read-7 (omega arith) (λ e. omega arith)
 
 all-hex-requires : tie.Need-all-hex-requires
 all-hex-requires c κs = search needs

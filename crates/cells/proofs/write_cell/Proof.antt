@@ -6,10 +6,10 @@ use Rattle.cells.proofs.write_cell.Statement.{statement}
 use Rattle.cells.proofs.write_cell.Tie as tie
 
 returns : tie.Need-returns
-returns c = write-1 (c .if1 .taken)
+returns c = write-1 (λ e. omega arith)
 
 returns-2 : tie.Need-returns-2
-returns-2 c = write-1-out (c .if2 .taken)
+returns-2 c = write-1-out (λ e. omega arith)
 
 write-text-requires : tie.Need-write-text-requires
 write-text-requires c κs = search needs
