@@ -5,4 +5,3 @@ pub mod Blocks
 pub mod Output
 pub mod Shake
 pub mod Tables
-pub mod Known

@@ -8,9 +8,9 @@ ghost use Rattle.shake.specs.Keccak.{theta, rho, pi, chi, iota, round, k
 ghost use Rattle.shake.specs.Shake.{xorByte, xorBytes, output, shake128};
 ghost use Rattle.shake.specs.Held.{fed, Absorbs, Finishes, PutSome, number};
 
-// 3.2.1 to 3.2.3.
-fn mixed(a: [u64; 25]) -> [u64; 25]
-    ensures { λ r. ⌜ r ≡ pi (rho (theta a)) ⌝ }
+// 3.2.1.
+fn theta(a: [u64; 25]) -> [u64; 25]
+    ensures { λ r. ⌜ r ≡ theta a ⌝ }
 {
     let a0 = a[0];
     let a1 = a[1];
@@ -47,115 +47,148 @@ fn mixed(a: [u64; 25]) -> [u64; 25]
     let d2 = c1 ^ (c3 << 1 | c3 >> 63);
     let d3 = c2 ^ (c4 << 1 | c4 >> 63);
     let d4 = c3 ^ (c0 << 1 | c0 >> 63);
-    let t0 = a0 ^ d0;
-    let t1 = a1 ^ d1;
-    let t2 = a2 ^ d2;
-    let t3 = a3 ^ d3;
-    let t4 = a4 ^ d4;
-    let t5 = a5 ^ d0;
-    let t6 = a6 ^ d1;
-    let t7 = a7 ^ d2;
-    let t8 = a8 ^ d3;
-    let t9 = a9 ^ d4;
-    let t10 = a10 ^ d0;
-    let t11 = a11 ^ d1;
-    let t12 = a12 ^ d2;
-    let t13 = a13 ^ d3;
-    let t14 = a14 ^ d4;
-    let t15 = a15 ^ d0;
-    let t16 = a16 ^ d1;
-    let t17 = a17 ^ d2;
-    let t18 = a18 ^ d3;
-    let t19 = a19 ^ d4;
-    let t20 = a20 ^ d0;
-    let t21 = a21 ^ d1;
-    let t22 = a22 ^ d2;
-    let t23 = a23 ^ d3;
-    let t24 = a24 ^ d4;
     [
-        t0,
-        t6 << 44 | t6 >> 20,
-        t12 << 43 | t12 >> 21,
-        t18 << 21 | t18 >> 43,
-        t24 << 14 | t24 >> 50,
-        t3 << 28 | t3 >> 36,
-        t9 << 20 | t9 >> 44,
-        t10 << 3 | t10 >> 61,
-        t16 << 45 | t16 >> 19,
-        t22 << 61 | t22 >> 3,
-        t1 << 1 | t1 >> 63,
-        t7 << 6 | t7 >> 58,
-        t13 << 25 | t13 >> 39,
-        t19 << 8 | t19 >> 56,
-        t20 << 18 | t20 >> 46,
-        t4 << 27 | t4 >> 37,
-        t5 << 36 | t5 >> 28,
-        t11 << 10 | t11 >> 54,
-        t17 << 15 | t17 >> 49,
-        t23 << 56 | t23 >> 8,
-        t2 << 62 | t2 >> 2,
-        t8 << 55 | t8 >> 9,
-        t14 << 39 | t14 >> 25,
-        t15 << 41 | t15 >> 23,
-        t21 << 2 | t21 >> 62,
+        a0 ^ d0,
+        a1 ^ d1,
+        a2 ^ d2,
+        a3 ^ d3,
+        a4 ^ d4,
+        a5 ^ d0,
+        a6 ^ d1,
+        a7 ^ d2,
+        a8 ^ d3,
+        a9 ^ d4,
+        a10 ^ d0,
+        a11 ^ d1,
+        a12 ^ d2,
+        a13 ^ d3,
+        a14 ^ d4,
+        a15 ^ d0,
+        a16 ^ d1,
+        a17 ^ d2,
+        a18 ^ d3,
+        a19 ^ d4,
+        a20 ^ d0,
+        a21 ^ d1,
+        a22 ^ d2,
+        a23 ^ d3,
+        a24 ^ d4,
+    ]
+}
+
+// 3.2.2 and 3.2.3.
+fn rho_pi(a: [u64; 25]) -> [u64; 25]
+    ensures { λ r. ⌜ r ≡ pi (rho a) ⌝ }
+{
+    let a0 = a[0];
+    let a1 = a[1];
+    let a2 = a[2];
+    let a3 = a[3];
+    let a4 = a[4];
+    let a5 = a[5];
+    let a6 = a[6];
+    let a7 = a[7];
+    let a8 = a[8];
+    let a9 = a[9];
+    let a10 = a[10];
+    let a11 = a[11];
+    let a12 = a[12];
+    let a13 = a[13];
+    let a14 = a[14];
+    let a15 = a[15];
+    let a16 = a[16];
+    let a17 = a[17];
+    let a18 = a[18];
+    let a19 = a[19];
+    let a20 = a[20];
+    let a21 = a[21];
+    let a22 = a[22];
+    let a23 = a[23];
+    let a24 = a[24];
+    [
+        a0,
+        a6 << 44 | a6 >> 20,
+        a12 << 43 | a12 >> 21,
+        a18 << 21 | a18 >> 43,
+        a24 << 14 | a24 >> 50,
+        a3 << 28 | a3 >> 36,
+        a9 << 20 | a9 >> 44,
+        a10 << 3 | a10 >> 61,
+        a16 << 45 | a16 >> 19,
+        a22 << 61 | a22 >> 3,
+        a1 << 1 | a1 >> 63,
+        a7 << 6 | a7 >> 58,
+        a13 << 25 | a13 >> 39,
+        a19 << 8 | a19 >> 56,
+        a20 << 18 | a20 >> 46,
+        a4 << 27 | a4 >> 37,
+        a5 << 36 | a5 >> 28,
+        a11 << 10 | a11 >> 54,
+        a17 << 15 | a17 >> 49,
+        a23 << 56 | a23 >> 8,
+        a2 << 62 | a2 >> 2,
+        a8 << 55 | a8 >> 9,
+        a14 << 39 | a14 >> 25,
+        a15 << 41 | a15 >> 23,
+        a21 << 2 | a21 >> 62,
     ]
 }
 
 // 3.2.4 and 3.2.5.
-fn rows(b: [u64; 25], rc: u64) -> [u64; 25]
-    ensures { λ r. ⌜ r ≡ iota rc (chi b) ⌝ }
+fn chi_iota(a: [u64; 25], rc: u64) -> [u64; 25]
+    ensures { λ r. ⌜ r ≡ iota rc (chi a) ⌝ }
 {
-    let b0 = b[0];
-    let b1 = b[1];
-    let b2 = b[2];
-    let b3 = b[3];
-    let b4 = b[4];
-    let b5 = b[5];
-    let b6 = b[6];
-    let b7 = b[7];
-    let b8 = b[8];
-    let b9 = b[9];
-    let b10 = b[10];
-    let b11 = b[11];
-    let b12 = b[12];
-    let b13 = b[13];
-    let b14 = b[14];
-    let b15 = b[15];
-    let b16 = b[16];
-    let b17 = b[17];
-    let b18 = b[18];
-    let b19 = b[19];
-    let b20 = b[20];
-    let b21 = b[21];
-    let b22 = b[22];
-    let b23 = b[23];
-    let b24 = b[24];
+    let a0 = a[0];
+    let a1 = a[1];
+    let a2 = a[2];
+    let a3 = a[3];
+    let a4 = a[4];
+    let a5 = a[5];
+    let a6 = a[6];
+    let a7 = a[7];
+    let a8 = a[8];
+    let a9 = a[9];
+    let a10 = a[10];
+    let a11 = a[11];
+    let a12 = a[12];
+    let a13 = a[13];
+    let a14 = a[14];
+    let a15 = a[15];
+    let a16 = a[16];
+    let a17 = a[17];
+    let a18 = a[18];
+    let a19 = a[19];
+    let a20 = a[20];
+    let a21 = a[21];
+    let a22 = a[22];
+    let a23 = a[23];
+    let a24 = a[24];
     [
-        b0 ^ (!b1 & b2) ^ rc,
-        b1 ^ (!b2 & b3),
-        b2 ^ (!b3 & b4),
-        b3 ^ (!b4 & b0),
-        b4 ^ (!b0 & b1),
-        b5 ^ (!b6 & b7),
-        b6 ^ (!b7 & b8),
-        b7 ^ (!b8 & b9),
-        b8 ^ (!b9 & b5),
-        b9 ^ (!b5 & b6),
-        b10 ^ (!b11 & b12),
-        b11 ^ (!b12 & b13),
-        b12 ^ (!b13 & b14),
-        b13 ^ (!b14 & b10),
-        b14 ^ (!b10 & b11),
-        b15 ^ (!b16 & b17),
-        b16 ^ (!b17 & b18),
-        b17 ^ (!b18 & b19),
-        b18 ^ (!b19 & b15),
-        b19 ^ (!b15 & b16),
-        b20 ^ (!b21 & b22),
-        b21 ^ (!b22 & b23),
-        b22 ^ (!b23 & b24),
-        b23 ^ (!b24 & b20),
-        b24 ^ (!b20 & b21),
+        a0 ^ (!a1 & a2) ^ rc,
+        a1 ^ (!a2 & a3),
+        a2 ^ (!a3 & a4),
+        a3 ^ (!a4 & a0),
+        a4 ^ (!a0 & a1),
+        a5 ^ (!a6 & a7),
+        a6 ^ (!a7 & a8),
+        a7 ^ (!a8 & a9),
+        a8 ^ (!a9 & a5),
+        a9 ^ (!a5 & a6),
+        a10 ^ (!a11 & a12),
+        a11 ^ (!a12 & a13),
+        a12 ^ (!a13 & a14),
+        a13 ^ (!a14 & a10),
+        a14 ^ (!a10 & a11),
+        a15 ^ (!a16 & a17),
+        a16 ^ (!a17 & a18),
+        a17 ^ (!a18 & a19),
+        a18 ^ (!a19 & a15),
+        a19 ^ (!a15 & a16),
+        a20 ^ (!a21 & a22),
+        a21 ^ (!a22 & a23),
+        a22 ^ (!a23 & a24),
+        a23 ^ (!a24 & a20),
+        a24 ^ (!a20 & a21),
     ]
 }
 
@@ -163,8 +196,7 @@ fn rows(b: [u64; 25], rc: u64) -> [u64; 25]
 fn round(a: [u64; 25], rc: u64) -> [u64; 25]
     ensures { λ r. ⌜ r ≡ round rc a ⌝ }
 {
-    let b = mixed(a);
-    rows(b, rc)
+    chi_iota(rho_pi(theta(a)), rc)
 }
 
 // The constants of the 24 rounds (3.2.5).

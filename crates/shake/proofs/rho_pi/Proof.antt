@@ -1,11 +1,10 @@
--- `shake::mixed` meets its contract. Assumes nothing.
+-- `shake::rho_pi` meets its contract. Assumes nothing.
 use mathlib.Core.Path.{refl}
-use Rattle.octets.specs.Xor.{_⊕_}
-use Rattle.octets.specs.Lists.{tab}
-use Rattle.shake.specs.Keccak.{theta, column, offsets, rho, pi, rot}
 use borrow.Author.Needs.{needs}
-use Rattle.shake.proofs.mixed.Statement.{statement}
-use Rattle.shake.proofs.mixed.Tie as tie
+use Rattle.octets.specs.Lists.{tab}
+use Rattle.shake.specs.Keccak.{rot, offsets, rho, pi}
+use Rattle.shake.proofs.rho_pi.Statement.{statement}
+use Rattle.shake.proofs.rho_pi.Tie as tie
 
 array-read-a0 : tie.Need-array-read-a0
 array-read-a0 c = search needs
@@ -83,11 +82,11 @@ array-read-a24 : tie.Need-array-read-a24
 array-read-a24 c = search needs
 
 returns : tie.Need-returns
-unfolding _⊕_ tab theta column offsets rho pi rot
+unfolding tab rot offsets rho pi
 returns c = refl
 
-pub mixed-spec : {M : Type 1} → statement M
-mixed-spec =
+pub rho-pi-spec : {M : Type 1} → statement M
+rho-pi-spec =
     tie.close
     (tie.spec
     array-read-a0
