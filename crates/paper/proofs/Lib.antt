@@ -8,3 +8,4 @@ pub mod Scheme
 pub mod Unpacked
 pub mod Closed
 pub mod Examples
+pub mod Folding
