@@ -92,15 +92,15 @@ digits-lt (c ∷ cs) t e =
         one : x ≤ 1
         one = omega arith
 
-low-lt : (a : ℕ) → lowPart a < 16
+pub low-lt : (a : ℕ) → lowPart a < 16
 unfolding lowPart small
 low-lt a = digits-lt _ tt a
 
-high-lt : (a : ℕ) → highPart a < 16
+pub high-lt : (a : ℕ) → highPart a < 16
 unfolding highPart small
 high-lt a = digits-lt _ tt a
 
-pub one-root-basis : Basis 1 2
+abbrev pub one-root-basis : Basis 1 2
 one-root-basis =
     record {
       independent = one-root-independent;
