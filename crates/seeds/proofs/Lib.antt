@@ -1,0 +1,5 @@
+pub mod Blocks
+pub mod Keys
+pub mod Routines
+pub mod Apart
+pub mod Hash
