@@ -1,0 +1,9 @@
+pub mod Put
+pub mod Rows
+pub mod Digits
+pub mod Horner
+pub mod Products
+pub mod Flat
+pub mod Spreading
+pub mod Solution
+pub mod Evals
