@@ -4,19 +4,26 @@ use mathlib.Core.List.{List, [], _∷_, _++_}
 use Prim.Native.Nat.{ℕ, _+_, _≤_}
 use native.Mathlib.Nat.{add-zero, add-assoc}
 use lib.ListN.{length, set}
-use Rattle.octets.specs.Lists.{vec, view, tab, part, bytesOf}
+use Rattle.octets.specs.Lists.{Bytes, vec, view, tab, part, bytesOf}
 use Rattle.octets.specs.Place.{place}
+use Rattle.octets.proofs.Bounds.{bytes-append, bytes-bytesOf}
 use Rattle.octets.proofs.Tab.{is-tab}
 use Rattle.octets.proofs.Part.{length-part, vec-part}
 use Rattle.octets.proofs.Place.{place-extend}
+use Rattle.octets.proofs.Frame.{part-add}
 use Rattle.aes.specs.declared.Cols.{Cols}
 use Rattle.aes.specs.Words.{blockOf}
-use Rattle.aes.proofs.Octets.{part-append, set-place}
+use Rattle.aes.proofs.Octets.{set-place}
 use Rattle.aes.proofs.Words.{four}
 
-pub length-block : (k : Cols) → length (blockOf k) ≡ 16
+pub length-blockOf : (k : Cols) → length (blockOf k) ≡ 16
 unfolding blockOf bytesOf
-length-block k = refl
+length-blockOf k = refl
+
+pub bytes-blockOf : (k : Cols) → Bytes (blockOf k)
+unfolding blockOf
+bytes-blockOf k =
+    bytes-append _ _ (bytes-bytesOf 4 (k .a)) (bytes-append _ _ (bytes-bytesOf 4 (k .b)) (bytes-append _ _ (bytes-bytesOf 4 (k .c)) (bytes-bytesOf 4 (k .d))))
 
 pub parts : {p q r s p′ q′ r′ s′ : List ℕ} → p ≡ p′ → q ≡ q′ → r ≡ r′ → s ≡ s′ → p ++ (q ++ (r ++ s)) ≡ p′ ++ (q′ ++ (r′ ++ s′))
 parts e f g h = cc
@@ -39,12 +46,12 @@ word-stored s p a b c d =
 
 four-parts : (s : List ℕ) (p : ℕ) → part p 16 s ≡ part p 4 s ++ (part (p + 4) 4 s ++ (part (p + 8) 4 s ++ part (p + 12) 4 s))
 four-parts s p =
-    part-append p 4 12 s
+    part-add p 4 12 s
     ∙ ap (λ (l : List ℕ). part p 4 s ++ l)
-    (part-append (p + 4) 4 8 s
+    (part-add (p + 4) 4 8 s
     ∙ ap (λ (o : ℕ). part (p + 4) 4 s ++ part o 8 s) (add-assoc p 4 4)
     ∙ ap (λ (l : List ℕ). part (p + 4) 4 s ++ l)
-    (part-append (p + 8) 4 4 s ∙ ap (λ (o : ℕ). part (p + 8) 4 s ++ part o 4 s) (add-assoc p 8 4)))
+    (part-add (p + 8) 4 4 s ∙ ap (λ (o : ℕ). part (p + 8) 4 s ++ part o 4 s) (add-assoc p 8 4)))
 
 pub block-read : (s : List ℕ) (p : ℕ) (k : Cols) → bytesOf 4 (k .a) ≡ part p 4 s → bytesOf 4 (k .b) ≡ part (p + 4) 4 s → bytesOf 4 (k .c) ≡ part (p + 8) 4 s
     → bytesOf 4 (k .d) ≡ part (p + 12) 4 s

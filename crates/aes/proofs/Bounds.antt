@@ -1,19 +1,18 @@
 -- Lengths, and that bytes give bytes. Assumes nothing.
 use mathlib.Core.Path.{_≡_, refl, ap, _∙_}
-use mathlib.Core.List.{List, [], _∷_, _++_, map}
-use Prim.Native.Nat.{ℕ, zero, suc, _+_, _-_, _*_, _/_, _%_, _<_, _≤_}
+use mathlib.Core.List.{List, [], _∷_, map}
+use Prim.Native.Nat.{ℕ, zero, suc, _+_, _-_, _<_}
 use native.Mathlib.Omega.{arith}
-use lib.Dec.{lit<, lit≤}
+use lib.Dec.{lit<}
 use lib.ListN.{length, length-append}
-use Rattle.octets.specs.Lists.{Bytes, vec, view, tab, part, joined}
-use Rattle.octets.specs.Xor.{xorB}
+use Rattle.octets.specs.Lists.{Bytes, view, tab, part}
 use Rattle.octets.proofs.Xor.{length-xorB}
 use Rattle.octets.proofs.Tab.{length-tab}
 use Rattle.octets.proofs.Part.{length-part, length-joined}
-use Rattle.octets.proofs.Bounds.{bytes-append, bytes-at, bytes-part, bytes-joined, bytes-xorB, bytes-tab}
+use Rattle.octets.proofs.Bounds.{bytes-at, bytes-part, bytes-joined, bytes-xorB, bytes-tab}
 use Rattle.field.proofs.Product.{root-lt}
 use Rattle.aes.specs.Sbox.{sbox}
-use Rattle.aes.specs.Cipher.{subBytes, shiftRows, addRoundKey, rounds, cipher, rotWord, xPower, rcon, temp, keyWord, expandKey, aes128}
+use Rattle.aes.specs.Cipher.{subBytes, shiftRows, addRoundKey, cipher, rotWord, xPower, rcon, temp, keyWord, expandKey, aes128}
 use Rattle.aes.proofs.Sbox.{sbox-lt}
 
 pub aes128-is : (k x : List ℕ) → cipher (expandKey k) x ≡ aes128 k x
@@ -75,7 +74,7 @@ bytes-shiftRows s p = bytes-tab 16 _ (λ i h. bytes-at s p _)
 pub xPower-lt : (j : ℕ) → xPower j < 256
 unfolding xPower
 xPower-lt zero = lit< tt
-xPower-lt (suc j) = root-lt 7 0x1b (lit< tt) (xPower j)
+xPower-lt (suc j) = root-lt 7 _ (lit< tt) (xPower j)
 
 bytes-rcon : (j : ℕ) → Bytes (rcon j)
 unfolding rcon Bytes

@@ -1,24 +1,24 @@
 -- Key expansion on columns, four a turn, is FIPS 197's, word by word. Assumes nothing.
 use mathlib.Core.Path.{_≡_, refl, ap, ap₂, _∙_, sym}
-use mathlib.Core.List.{List, [], _∷_, _++_, map}
+use mathlib.Core.List.{List, [], _∷_, _++_}
 use Prim.Native.Nat.{ℕ, zero, suc, _+_, _-_, _*_, _/_, _%_, _≤_, _<_}
-use native.Mathlib.Numerals.{add-one, add-three, add-four}
+use native.Mathlib.Numerals.{add-three, add-four}
 use native.Mathlib.Omega.{arith}
 use lib.Bits.{bitXor}
-use lib.ListN.{length, length-append}
-use Rattle.octets.specs.Lists.{vec, view, tab, part, joined, bytesOf}
+use lib.ListN.{length}
+use Rattle.octets.specs.Lists.{tab, part, joined, bytesOf}
 use Rattle.octets.specs.Xor.{_⊕_, xorB}
 use Rattle.octets.specs.Place.{place}
 use Rattle.octets.proofs.Xor.{⊕-zero-r}
-use Rattle.octets.proofs.Part.{part-all, length-bytesOf}
-use Rattle.octets.proofs.Place.{length-place}
+use Rattle.octets.proofs.Part.{part-all}
+use Rattle.octets.proofs.Frame.{part-grows}
 use Rattle.aes.specs.declared.Cols.{Cols}
 use Rattle.aes.specs.Sbox.{sbox}
 use Rattle.aes.specs.Cipher.{subBytes, rotWord, xPower, rcon, temp, keyWord, expandKey}
 use Rattle.aes.specs.Words.{blockOf, NextKey}
-use Rattle.aes.proofs.Octets.{front-place, joined-four}
+use Rattle.aes.proofs.Octets.{joined-four}
 use Rattle.aes.proofs.Words.{four, rows}
-use Rattle.aes.proofs.Blocks.{length-block}
+use Rattle.aes.proofs.Blocks.{length-blockOf}
 
 -- the changed word of a turn
 pub changed : (d rc y0 y1 y2 y3 : ℕ) → y0 ≡ sbox (d / 256 % 256) → y1 ≡ sbox (d / 65536 % 256) → y2 ≡ sbox (d / 16777216 % 256)
@@ -116,14 +116,16 @@ pub stored-more : (key : List ℕ) (r : ℕ) (k : Cols) (w : List ℕ) (q : ℕ)
     → Held key r k
     → part 0 (16 * (r + 1)) n ≡ joined (4 * (r + 1)) (keyWord key)
 stored-more key r k w q {n} e p l h s held =
-    ap₂ (λ (m : ℕ) (v : List ℕ). part 0 m v) bytes-more (e ∙ ap (λ (a : ℕ). place a (blockOf k) w) p)
-    ∙ front-place (16 * r) 16 (blockOf k) w (length-block k) (omega arith)
-    ∙ ap (λ (v : List ℕ). v ++ blockOf k) s
+    ap₂ (λ (m : ℕ) (v : List ℕ). part 0 m v) bytes-more (e ∙ ap (λ (a : ℕ). place a (blockOf k) w) from-start)
+    ∙ part-grows 0 (16 * r) 16 (joined (4 * r) (keyWord key)) (blockOf k) w s (length-blockOf k) (omega arith)
     ∙ words-more key r k held
     ∙ ap (λ (m : ℕ). joined m (keyWord key)) count-more
   where
     bytes-more : 16 * (r + 1) ≡ 16 * r + 16
     bytes-more = omega arith
+
+    from-start : q ≡ 0 + 16 * r
+    from-start = omega arith
 
     count-more : 4 * r + 4 ≡ 4 * (r + 1)
     count-more = omega arith

@@ -1,12 +1,11 @@
 -- A round on columns is FIPS 197's round on bytes. Assumes nothing.
-use mathlib.Core.Path.{_≡_, refl, ap, ap₂, _∙_, sym}
-use mathlib.Core.List.{List, [], _∷_, _++_, map}
-use Prim.Native.Nat.{ℕ, zero, suc, _+_, _*_, _/_, _%_, _≤_, _<_}
+use mathlib.Core.Path.{_≡_, ap, ap₂, _∙_, sym}
+use mathlib.Core.List.{List, [], _∷_, _++_}
+use Prim.Native.Nat.{ℕ, suc, _+_, _*_, _/_, _%_, _<_}
 use native.Mathlib.Omega.{arith}
 use lib.Bits.{bitXor}
-use lib.ListN.{getD}
-use Rattle.octets.specs.Lists.{vec, view, tab, part, joined, bytesOf}
-use Rattle.octets.specs.Xor.{_⊕_, xorB}
+use Rattle.octets.specs.Lists.{vec, tab, part, joined, bytesOf}
+use Rattle.octets.specs.Xor.{xorB}
 use Rattle.aes.specs.declared.Cols.{Cols}
 use Rattle.aes.specs.Sbox.{sbox}
 use Rattle.aes.specs.Cipher.{subBytes, shiftRows, mixColumn, mixColumns, addRoundKey, rounds, cipher}
@@ -51,6 +50,14 @@ block-rows : (k : Cols) → blockOf k ≡ bytes (k .a) ++ (bytes (k .b) ++ (byte
 unfolding blockOf
 block-rows k = parts (rows (k .a)) (rows (k .b)) (rows (k .c)) (rows (k .d))
 
+-- x is a column of a round, of the columns a, b, c, d that ShiftRows brings together and of the round key's column y
+abbrev Mixes : ℕ → ℕ → ℕ → ℕ → ℕ → ℕ → Type 0
+Mixes x a b c d y = bytesOf 4 x ≡ xorB (mixColumn (sbox (a % 256)) (sbox (b / 256 % 256)) (sbox (c / 65536 % 256)) (sbox (d / 16777216 % 256))) (bytesOf 4 y)
+
+-- the same of the last round
+abbrev Moves : ℕ → ℕ → ℕ → ℕ → ℕ → ℕ → Type 0
+Moves x a b c d y = bytesOf 4 x ≡ xorB (sbox (a % 256) ∷ sbox (b / 256 % 256) ∷ sbox (c / 65536 % 256) ∷ sbox (d / 16777216 % 256) ∷ []) (bytesOf 4 y)
+
 module _ (s k r : Cols) where
   pub add-law : bytesOf 4 (r .a) ≡ xorB (bytesOf 4 (s .a)) (bytesOf 4 (k .a))
       → bytesOf 4 (r .b) ≡ xorB (bytesOf 4 (s .b)) (bytesOf 4 (k .b))
@@ -60,19 +67,12 @@ module _ (s k r : Cols) where
   unfolding blockOf bytesOf xorB
   add-law e f g h = parts e f g h
 
-  -- column by column, of the columns a, b, c, d that ShiftRows brings together
-  abbrev pub Mixes : ℕ → ℕ → ℕ → ℕ → ℕ → ℕ → Type 0
-  Mixes x a b c d y = bytesOf 4 x ≡ xorB (mixColumn (sbox (a % 256)) (sbox (b / 256 % 256)) (sbox (c / 65536 % 256)) (sbox (d / 16777216 % 256))) (bytesOf 4 y)
-
   pub round-law : Mixes (r .a) (s .a) (s .b) (s .c) (s .d) (k .a) → Mixes (r .b) (s .b) (s .c) (s .d) (s .a) (k .b)
       → Mixes (r .c) (s .c) (s .d) (s .a) (s .b) (k .c)
       → Mixes (r .d) (s .d) (s .a) (s .b) (s .c) (k .d)
       → blockOf r ≡ xorB (mixColumns (shiftRows (subBytes (blockOf s)))) (blockOf k)
   unfolding blockOf bytesOf xorB mixColumn mixColumns shiftRows subBytes tab joined
   round-law e f g h = parts e f g h ∙ ap (λ (l : List ℕ). xorB (mixColumns (shiftRows (subBytes l))) (blockOf k)) (sym (block-rows s))
-
-  abbrev pub Moves : ℕ → ℕ → ℕ → ℕ → ℕ → ℕ → Type 0
-  Moves x a b c d y = bytesOf 4 x ≡ xorB (sbox (a % 256) ∷ sbox (b / 256 % 256) ∷ sbox (c / 65536 % 256) ∷ sbox (d / 16777216 % 256) ∷ []) (bytesOf 4 y)
 
   pub last-law : Moves (r .a) (s .a) (s .b) (s .c) (s .d) (k .a) → Moves (r .b) (s .b) (s .c) (s .d) (s .a) (k .b)
       → Moves (r .c) (s .c) (s .d) (s .a) (s .b) (k .c)

@@ -70,6 +70,13 @@ pub fn load(s: &[u8], p: usize) -> Cols
     }
 }
 
+// Sixteen bytes as a block.
+pub fn from_bytes(x: [u8; 16]) -> Cols
+    ensures { λ r. ⌜ blockOf r ≡ x ⌝ }
+{
+    load(&x, 0)
+}
+
 // The four bytes of x into s, from p on, the lowest first.
 pub fn store_word(s: &mut [u8], p: usize, x: u32)
     requires { ⌜ p + 4 ≤ length (now s) ⌝ }
@@ -90,6 +97,15 @@ pub fn store(s: &mut [u8], p: usize, k: Cols)
     store_word(s, p + 4, k.b);
     store_word(s, p + 8, k.c);
     store_word(s, p + 12, k.d);
+}
+
+// A block as sixteen bytes.
+pub fn to_bytes(k: Cols) -> [u8; 16]
+    ensures { λ r. ⌜ r ≡ blockOf k ⌝ }
+{
+    let mut r = [0u8; 16];
+    store(&mut r, 0, k);
+    r
 }
 
 // The sum of two blocks.
@@ -228,24 +244,8 @@ pub fn expand(t: &[u32; 1024], key: Cols) -> [u8; 176]
     while r < 10 {
         k = next_key(t, k, rc);
         store(&mut w, 16 * r + 16, k);
-        rc = tables::times_x(rc);
+        rc = field::times_root(rc);
         r += 1;
     }
     w
-}
-
-// Sixteen bytes as a block.
-pub fn from_bytes(x: [u8; 16]) -> Cols
-    ensures { λ r. ⌜ blockOf r ≡ x ⌝ }
-{
-    load(&x, 0)
-}
-
-// A block as sixteen bytes.
-pub fn to_bytes(k: Cols) -> [u8; 16]
-    ensures { λ r. ⌜ r ≡ blockOf k ⌝ }
-{
-    let mut r = [0u8; 16];
-    store(&mut r, 0, k);
-    r
 }

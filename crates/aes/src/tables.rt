@@ -3,7 +3,6 @@ ghost use mathlib.Core.Path.{_≡_};
 ghost use mathlib.Core.List.{[], _∷_};
 ghost use lib.ListN.{length};
 ghost use Rattle.octets.specs.Lists.{bytesOf};
-ghost use Rattle.field.specs.Gf.{timesRoot};
 ghost use Rattle.aes.specs.Words.{spread, Table};
 
 // sbox x at each x: the inverse in K and then the affine map (5.1.1).
@@ -266,13 +265,6 @@ const SBOX: [u8; 256] = [
     0x16,
 ];
 
-// ξ times b: K's polynomial less its leading term is 1b.
-pub(crate) fn times_x(b: u8) -> u8
-    ensures { λ r. ⌜ r ≡ timesRoot 7 0x1b b ⌝ }
-{
-    (b % 128 * 2) ^ (b / 128 * 0x1b)
-}
-
 // The column with the bytes x0, x1, x2, x3. By sums and products, so that four loads of bytes become one of a word.
 pub(crate) fn word(x0: u8, x1: u8, x2: u8, x3: u8) -> u32
     ensures { λ r. ⌜ bytesOf 4 r ≡ (x0 ∷ x1 ∷ x2 ∷ x3 ∷ []) ⌝ }
@@ -284,7 +276,7 @@ pub(crate) fn word(x0: u8, x1: u8, x2: u8, x3: u8) -> u32
 fn entry(i: usize, s: u8) -> u32
     ensures { λ r. ⌜ bytesOf 4 r ≡ spread i s ⌝ }
 {
-    let d = times_x(s);
+    let d = field::times_root(s);
     let e = s ^ d;
     if i == 0 {
         return word(d, s, s, e);

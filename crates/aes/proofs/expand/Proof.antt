@@ -5,7 +5,7 @@ use native.Mathlib.Omega.{arith}
 use native.Mathlib.Numerals.{add-one}
 use borrow.Author.Needs.{needs}
 use lib.ListN.{length}
-use lib.Dec.{lit<, lit≤}
+use lib.Dec.{lit<}
 use Rattle.octets.specs.Lists.{part, joined}
 use Rattle.field.specs.Gf.{timesRoot}
 use Rattle.aes.specs.Words.{blockOf}
@@ -54,8 +54,8 @@ add-store c = omega arith
 store-requires-2 : tie.Need-store-requires-2 Inv-loop μ-loop
 store-requires-2 c κs = search needs
 
-times-x-requires : tie.Need-times-x-requires Inv-loop μ-loop
-times-x-requires c κs = search needs
+times-root-requires : tie.Need-times-root-requires Inv-loop μ-loop
+times-root-requires c κs = search needs
 
 add-r : tie.Need-add-r Inv-loop μ-loop
 add-r c = omega arith
@@ -76,7 +76,7 @@ loop-again c =
       st .kept .0 ∙ l .inv .1,
       stored-more key (r + 1) (n .result) (l .w) (16 * r + 16) (st .ensures) (omega arith) (l .inv .1) (omega arith) (l .inv .2) held,
       held,
-      c .times-x .ensures ∙ ap (timesRoot 7 0x1b) (l .inv .4) ∙ ap xPower (sym (add-one r)),
+      c .times-root .ensures ∙ ap (timesRoot 7 0x1b) (l .inv .4) ∙ ap xPower (sym (add-one r)),
     )
 
 returns : tie.Need-returns Inv-loop μ-loop
@@ -98,7 +98,7 @@ expand-spec =
     mul-store
     add-store
     store-requires-2
-    times-x-requires
+    times-root-requires
     add-r
     loop-less
     loop-again

@@ -8,7 +8,7 @@ use lib.ListN.{length, length-set}
 use lib.Dec.{lit<}
 use Rattle.octets.proofs.Write.{set-more}
 use Rattle.octets.specs.Lists.{vec, bytesOf}
-use Rattle.aes.specs.Words.{spread, Table}
+use Rattle.aes.specs.Words.{spread}
 use Rattle.aes.specs.Sbox.{sbox}
 use Rattle.aes.proofs.Sbox.{table, sbox-rule}
 use Rattle.aes.proofs.tables.fill.Statement.{statement}
