@@ -1,7 +1,7 @@
 -- What the code holds after a message: with more bytes after it, below the end of a block or up to it, and with the padding.
 -- Assumes nothing.
 use mathlib.Core.Path.{_≡_, refl, sym, ap, ap₂, _∙_}
-use mathlib.Core.List.{List, [], _∷_, _++_, append-nil, append-assoc}
+use mathlib.Core.List.{List, [], _∷_, _++_, append-assoc}
 use Prim.Native.Nat.{ℕ, zero, suc, _+_, _-_, _*_, _/_, _%_, _^_, _<_, _≤_}
 use native.Mathlib.Numerals.{add-one}
 use native.Mathlib.Omega.{arith}
@@ -12,7 +12,7 @@ use Rattle.octets.specs.Lists.{part}
 use Rattle.octets.proofs.Part.{length-part}
 use Rattle.shake.specs.Keccak.{keccakF}
 use Rattle.shake.specs.Shake.{xorLane, xorByte, xorBytes, absorbBlocks, padding, zeros, absorbed}
-use Rattle.shake.specs.Held.{sponge, fed, Absorbs, PutSome}
+use Rattle.shake.specs.Held.{sponge, fed, PutSome}
 use Rattle.shake.specs.declared.Sponge.{Sponge}
 use Rattle.shake.proofs.Octets.{take-part}
 use Rattle.shake.proofs.Lanes.{xorLane-twice, xorBytes-append, xorBytes-zeros}

@@ -1,7 +1,7 @@
 // SHAKE128 of FIPS 202: the permutation Keccak-f[1600], a sponge that takes a message in parts, and the calls for a whole one.
 ghost use mathlib.Core.Path.{_≡_};
-ghost use mathlib.Core.List.{List, [], _∷_};
-ghost use Prim.Native.Nat.{ℕ, _+_, _*_, _^_, _<_, _≤_};
+ghost use mathlib.Core.List.{[], _∷_};
+ghost use Prim.Native.Nat.{_+_, _*_, _^_, _<_, _≤_};
 ghost use lib.ListN.{length};
 ghost use Rattle.octets.specs.Lists.{part};
 ghost use Rattle.shake.specs.Keccak.{theta, rho, pi, chi, iota, round, keccakF};

@@ -1,7 +1,7 @@
 -- `shake::finish` meets its contract. Assumes nothing.
-use mathlib.Core.Path.{_≡_, ap, _∙_}
+use mathlib.Core.Path.{ap, _∙_}
 use mathlib.Core.List.{List}
-use Prim.Native.Nat.{ℕ, _%_}
+use Prim.Native.Nat.{ℕ}
 use borrow.Author.Needs.{needs}
 use Rattle.shake.specs.Keccak.{keccakF}
 use Rattle.shake.specs.Shake.{xorByte}

@@ -1,7 +1,7 @@
 -- `shake::keccak_f` meets its contract: before turn i what is left are the rounds of the constants from i on. Assumes nothing.
 use mathlib.Core.Path.{_≡_, refl, sym, ap, subst, _∙_}
 use mathlib.Core.List.{List}
-use Prim.Native.Nat.{ℕ, suc, _≤_, _<_, _-_, _+_}
+use Prim.Native.Nat.{ℕ, _≤_, _<_, _-_, _+_}
 use native.Mathlib.Omega.{arith}
 use native.Mathlib.Numerals.{add-one}
 use borrow.Author.Needs.{needs}
