@@ -1,11 +1,12 @@
 -- An equation on all lanes: a row, the checker's value (algorithm 9), the signer's coefficients (algorithm 7). Assumes nothing.
-use mathlib.Core.Path.{_≡_, sym, ap, ap₂, _∙_}
+use mathlib.Core.Path.{_≡_, refl, sym, ap, ap₂, _∙_}
 use mathlib.Core.List.{List}
 use Prim.Native.Nat.{ℕ, suc, _+_, _*_, _%_, _<_}
 use native.Mathlib.Nat.{zero-add, mod-lt}
 use native.Mathlib.Omega.{arith}
 use lib.Bits.{bitAnd}
 use lib.Dec.{lit<}
+use lib.ListN.{replicate}
 use Rattle.octets.specs.Xor.{_⊕_}
 use Rattle.octets.specs.Lists.{vec, view, tab}
 use Rattle.octets.proofs.Xor.{⊕-comm, ⊕-zero-l, ⊕-zero-r}
@@ -33,18 +34,31 @@ vec-of n f t e l h = ap (λ (x : List ℕ). vec x l) e ∙ vec-tab n f l h
 abbrev pub masked : List ℕ → ℕ → ℕ → ℕ → ℕ
 masked m k c i = bitAnd (view m (192 * k) i) c
 
+-- the point's term of row j, and the first k of the others, under the masks
+abbrev pub rowTo : List ℕ → List ℕ → ℕ → ℕ → ℕ → List ℕ
+rowTo m q row j k = sofar 192 (masked m 56 (view q 1596 j)) (λ i. masked m i (view q row i)) k
+
+module _ (m q : List ℕ) (row j : ℕ) where
+  pub row-first : (a : List ℕ) → a ≡ tab 192 (λ i. vec (replicate 192 0) i ⊕ masked m 56 (view q 1596 j) i) → a ≡ rowTo m q row j 0
+  row-first a e = e ∙ sofar-first 192 (masked m 56 (view q 1596 j)) (λ i. masked m i (view q row i))
+
+  pub row-more : (t a : List ℕ) (k : ℕ) → t ≡ rowTo m q row j k
+      → a ≡ tab 192 (λ i. vec t i ⊕ masked m k (view q row k) i) → a ≡ rowTo m q row j (k + 1)
+  row-more t a k p e =
+      e ∙ sofar-turn 192 (masked m 56 (view q 1596 j)) (λ i. masked m i (view q row i)) t (masked m k (view q row k)) k p (λ i h. refl)
+
 module _ (m : List ℕ) (v : ℕ → ℕ → ℕ) (masks : Masks m v) where
-  pub scaled-is : (z a : List ℕ) (k c : ℕ) → k < 57 → ((i : ℕ) → i < 192 → vec z i ≡ 0) → a ≡ tab 192 (λ i. vec z i ⊕ masked m k c i)
+  pub scaled-is : (a : List ℕ) (k c : ℕ) → k < 57 → a ≡ tab 192 (λ i. vec (replicate 192 0) i ⊕ masked m k c i)
       → tab 24 (folded a) ≡ tab 24 (λ l. c ⊗ v k l)
-  scaled-is z a k c hk none e =
+  scaled-is a k c hk e =
       tab-ext 24 _ _
       (λ l h.
-      folded-sofar a (masked m k c) (λ i l. 0) 0 (e ∙ sofar-first 192 (masked m k c) (λ i l. 0) z none) l h
+      folded-sofar a (masked m k c) (λ i l. 0) 0 (e ∙ sofar-first 192 (masked m k c) (λ i l. 0)) l h
       ∙ ap (foldOf (masked m k c) l ⊕_) (sym (sum-start (λ i. foldOf (λ l. 0) l)))
       ∙ ⊕-zero-r (foldOf (masked m k c) l) ∙ masked-fold m v masks k l hk h c)
 
-  pub row-is : (q a : List ℕ) (row j k : ℕ) → j < 56 → row ≡ rowStart j → k ≡ suc j
-      → a ≡ sofar 192 (masked m 56 (view q 1596 j)) (λ i. masked m i (view q row i)) k → tab 24 (folded a) ≡ tab 24 (rowOn q v j)
+  pub row-is : (q a : List ℕ) (row j k : ℕ) → j < 56 → row ≡ rowStart j → k ≡ suc j → a ≡ rowTo m q row j k
+      → tab 24 (folded a) ≡ tab 24 (rowOn q v j)
   unfolding rowOn
   row-is q a row j k hj er ek e =
       tab-ext 24 _ _
@@ -85,13 +99,13 @@ module _ (q : List ℕ) (v : ℕ → ℕ → ℕ) where
 
   -- ---- the checker's value
 
-  pub eval-start : (n u a : List ℕ) (y : ℕ) → ((l : ℕ) → l < 24 → vec n l ≡ 0) → u ≡ tab 24 (λ l. y ⊗ v 56 l)
-      → a ≡ tab 24 (λ l. vec n l ⊕ (vec u l ⊗ v 56 l)) → a ≡ sofar 24 (ofValue y) ofRow 0
-  eval-start n u a y none e p =
+  pub eval-start : (u a : List ℕ) (y : ℕ) → u ≡ tab 24 (λ l. y ⊗ v 56 l)
+      → a ≡ tab 24 (λ l. vec (replicate 24 0) l ⊕ (vec u l ⊗ v 56 l)) → a ≡ sofar 24 (ofValue y) ofRow 0
+  eval-start u a y e p =
       p
       ∙ tab-ext 24 _ _
-      (λ l h. ap (vec n l ⊕_) (ap (_⊗ v 56 l) (vec-of 24 (λ l. y ⊗ v 56 l) u e l h) ∙ ⊗-assoc y (v 56 l) (v 56 l)))
-      ∙ sofar-first 24 (ofValue y) ofRow n none
+      (λ l h. ap (vec (replicate 24 0) l ⊕_) (ap (_⊗ v 56 l) (vec-of 24 (λ l. y ⊗ v 56 l) u e l h) ∙ ⊗-assoc y (v 56 l) (v 56 l)))
+      ∙ sofar-first 24 (ofValue y) ofRow
 
   pub eval-end : (z : List ℕ) (y j : ℕ) → j ≡ 56 → z ≡ sofar 24 (ofValue y) ofRow j
       → z ≡ tab 24 (λ l. zAt 56 (equationIn 56 q 0 y) (λ k. v k l) (v 56 l))

@@ -52,7 +52,10 @@ fold-start z a h e = is-tab 24 _ z e h
 pub fold-turn : (a r s : List ℕ) (b n : ℕ) → b ≡ n + 1 → b ≤ 8 → r ≡ tab 24 (foldedFrom b a)
     → s ≡ tab 24 (λ l. timesRoot 7 0x1b (vec r l) ⊕ vec a (24 * n + l)) → s ≡ tab 24 (foldedFrom n a)
 fold-turn a r s b n e h p q =
-    q ∙ tab-ext 24 _ _ (λ l hl. ap (λ (x : ℕ). timesRoot 7 0x1b x ⊕ vec a (24 * n + l)) (ap (λ (x : List ℕ). vec x l) p ∙ vec-tab 24 (foldedFrom b a) l hl) ∙ one-more l)
+    q
+    ∙ tab-ext 24 _ _
+    (λ l hl.
+    ap (λ (x : ℕ). timesRoot 7 0x1b x ⊕ vec a (24 * n + l)) (ap (λ (x : List ℕ). vec x l) p ∙ vec-tab 24 (foldedFrom b a) l hl) ∙ one-more l)
   where
     more : suc (8 - b) ≡ 8 - n
     more = omega arith
@@ -67,7 +70,9 @@ pub fold-end : (a r : List ℕ) (b : ℕ) → b ≡ 0 → r ≡ tab 24 (foldedFr
 unfolding folded
 fold-end a r b e p =
     p ∙ ap (λ (n : ℕ). tab 24 (foldedFrom n a)) e
-    ∙ tab-ext 24 _ _ (λ l h. foldFrom-sum 8 0 (λ i. vec a (24 * i + l)) ∙ sum-ext 8 _ _ (λ i hi. ap (λ (x : ℕ). timesPower i (vec a (24 * x + l))) (zero-add i)))
+    ∙ tab-ext 24 _ _
+    (λ l h.
+    foldFrom-sum 8 0 (λ i. vec a (24 * i + l)) ∙ sum-ext 8 _ _ (λ i hi. ap (λ (x : ℕ). timesPower i (vec a (24 * x + l))) (zero-add i)))
 
 -- ---- a sum of lists
 

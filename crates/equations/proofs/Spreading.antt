@@ -19,13 +19,17 @@ pub spread-digit : (d e e' : List ℕ) (k n b : ℕ) → n ≡ b + 1 → b < 8 �
     → Put e 24 (λ l. 192 * k + 24 * b + l) (λ l. maskOf (lane e k l) b) e' → Spread d k b e'
 spread-digit d e e' k n b q hb s p =
     record {
-      masks = λ b' l h h' hl. ⊎-elim (λ same. subst (λ (x : ℕ). view e' (192 * k) (24 * x + l) ≡ maskOf (lane d k l) x) same (now-it l hl)) (λ more. p .others _ (λ j hj z. omega arith) ∙ s .masks b' l (omega arith) h' hl) (eq-or-lt-of-le h);
+      masks =
+          λ b' l h h' hl.
+          ⊎-elim (λ same. subst (λ (x : ℕ). view e' (192 * k) (24 * x + l) ≡ maskOf (lane d k l) x) same (digit l hl))
+          (λ more. p .others _ (λ j hj z. omega arith) ∙ s .masks b' l (omega arith) h' hl)
+          (eq-or-lt-of-le h);
       before = λ i h. p .others i (λ j hj z. omega arith) ∙ s .before i (omega arith);
       behind = λ i h. p .others i (λ j hj z. omega arith) ∙ s .behind i h;
     }
   where
-    now-it : (l : ℕ) → l < 24 → view e' (192 * k) (24 * b + l) ≡ maskOf (lane d k l) b
-    now-it l hl =
+    digit : (l : ℕ) → l < 24 → view e' (192 * k) (24 * b + l) ≡ maskOf (lane d k l) b
+    digit l hl =
         ap (vec e') (sym (add-assoc (192 * k) (24 * b) l)) ∙ p .here l hl
         ∙ ap (λ (x : ℕ). maskOf x b) (s .before (192 * k + l) (omega arith))
 

@@ -16,7 +16,7 @@ use Rattle.algebra.specs.Line.{Equation, equationIn, form, z0, z1}
 abbrev pub lane : List ℕ → ℕ → ℕ → ℕ
 lane m k l = view m (192 * k) l
 
--- digit b of x, on all digits of a byte
+-- the mask of digit b of x: all digits of a byte are that digit
 unfoldable pub maskOf : ℕ → ℕ → ℕ
 maskOf x b = x / 2 ^ b % 2 * 255
 
@@ -49,8 +49,8 @@ row e v r j = mat suc (e .A) v j ⊕ (e .b j ⊗ r)
 unfoldable pub rowOn : List ℕ → (ℕ → ℕ → ℕ) → ℕ → ℕ → ℕ
 rowOn q v j l = row (equationIn 56 q 0 0) (λ k. v k l) (v 56 l) j
 
--- where lane 17 has the point 1, a is its value of the equation, and on each lane with the point 0, f and g are the coefficients of
--- the equation's line (ComputePz)
+-- f and g hold the coefficients of the equation's line on each lane with the point 0 (ComputePz), where lane 17 has the point 1; lane 17
+-- of f holds the equation's value there
 pub record OnLines (q : List ℕ) (v : ℕ → ℕ → ℕ) (f g : List ℕ) : Type 0 where
   pub z0-is : (l : ℕ) → l < 24 → v 56 l ≡ 0 → vec f l ≡ z0 56 (equationIn 56 q 0 0) (λ k. v k l)
   pub z1-is : (l : ℕ) → l < 24 → v 56 l ≡ 0 → v 56 17 ≡ 1 → vec g l ≡ z1 56 (equationIn 56 q 0 0) (λ k. v k 17) (λ k. v k l)

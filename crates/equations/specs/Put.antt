@@ -1,4 +1,4 @@
--- What a write leaves in a buffer. Definitions only.
+-- What the writes leave in a buffer. Definitions only.
 use mathlib.Core.Path.{_≡_}
 use mathlib.Core.List.{List}
 use Prim.Native.Nat.{ℕ, suc, _+_, _*_, _<_, _≤_}

@@ -323,10 +323,10 @@ fn put_row(w: &mut [u8], row: usize, j: usize, x: [u8; 56])
     ensures { λ _. ⌜ Put (now (w .entry)) (suc j) (λ k. row + k) (λ k. vec x k ⊗ vec x j) (now (w .exit)) ⌝ }
 {
     let c = x[j];
-    let mut k: usize = 0;
-    while k <= j {
-        w[row + k] = field::mul(c, x[k]);
-        k += 1;
+    let mut i: usize = 0;
+    while i <= j {
+        w[row + i] = field::mul(c, x[i]);
+        i += 1;
     }
 }
 

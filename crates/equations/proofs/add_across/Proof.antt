@@ -1,4 +1,4 @@
--- `equations::add_across` meets its contract. Assumes nothing.
+-- `equations::add_across` meets its contract: before turn l the first l lanes are the new ones. Assumes nothing.
 use mathlib.Core.Path.{_≡_, refl}
 use Prim.Native.Nat.{_-_, _≤_}
 use native.Mathlib.Omega.{arith}

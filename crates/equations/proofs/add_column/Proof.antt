@@ -1,4 +1,4 @@
--- `equations::add_column` meets its contract. Assumes nothing.
+-- `equations::add_column` meets its contract: before turn e the first e rows have their element. Assumes nothing.
 use mathlib.Core.Path.{_≡_, refl}
 use Prim.Native.Nat.{_+_, _*_, _-_, _≤_}
 use native.Mathlib.Omega.{arith}

@@ -1,4 +1,4 @@
--- `equations::add_masked` meets its contract. Assumes nothing.
+-- `equations::add_masked` meets its contract: before turn i the first i bytes are the new ones. Assumes nothing.
 use mathlib.Core.Path.{_≡_, refl}
 use Prim.Native.Nat.{_*_, _-_, _≤_}
 use native.Mathlib.Omega.{arith}

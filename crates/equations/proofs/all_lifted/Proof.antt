@@ -1,4 +1,4 @@
--- `equations::all_lifted` meets its contract. Assumes nothing.
+-- `equations::all_lifted` meets its contract: before turn k the first k elements are written. Assumes nothing.
 use mathlib.Core.Path.{_≡_}
 use Prim.Native.Nat.{_-_, _≤_}
 use native.Mathlib.Omega.{arith}

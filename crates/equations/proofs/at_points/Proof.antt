@@ -2,7 +2,6 @@
 use mathlib.Core.Path.{_≡_, sym, ap, _∙_}
 use Prim.Native.Nat.{ℕ, _+_, _-_, _≤_}
 use native.Mathlib.Omega.{arith}
-use lib.ListN.{replicate, getD-replicate}
 use denote.Ref.{now}
 use borrow.Author.Needs.{needs}
 use Rattle.field.specs.Vec.{rowStart}
@@ -32,7 +31,7 @@ loop-holds c =
     let s = c .before .before .before .before .args in (
       omega arith,
       sym row-zero,
-      λ v h. eval-start (now (s .q)) v (replicate 24 0) _ _ (s .y) (λ l hl. getD-replicate 24 l 0 0 hl) (c .before .scaled .ensures v h) (c .add-product .ensures v h),
+      λ v h. eval-start (now (s .q)) v _ _ (s .y) (c .before .scaled .ensures v h) (c .add-product .ensures v h),
     )
 
 row-value-requires : tie.Need-row-value-requires Inv-loop μ-loop
@@ -64,7 +63,9 @@ loop-again c =
     let l = c .before .before .before .loop in (
       omega arith,
       ap (λ (r : ℕ). r + (l .j + 1)) (l .inv .1) ∙ sym (row-turn (l .j)),
-      λ v h. eval-turn (now (s .q)) v (ofValue (now (s .q)) v (s .y)) (l .z) _ _ (l .j) (l .inv .2 v h) (c .before .row-value .ensures v h) (c .add-product2 .ensures v h),
+      λ v h.
+          eval-turn (now (s .q)) v (ofValue (now (s .q)) v (s .y)) (l .z) _ _ (l .j) (l .inv .2 v h)
+          (c .before .row-value .ensures v h) (c .add-product2 .ensures v h),
     )
 
 returns : tie.Need-returns Inv-loop μ-loop

@@ -1,4 +1,4 @@
--- `equations::clear_points` meets its contract. Assumes nothing.
+-- `equations::clear_points` meets its contract: before turn l the first l points are 0. Assumes nothing.
 use mathlib.Core.Path.{_≡_, refl}
 use Prim.Native.Nat.{_+_, _-_, _≤_}
 use native.Mathlib.Omega.{arith}

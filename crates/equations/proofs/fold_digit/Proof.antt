@@ -1,4 +1,4 @@
--- `equations::fold_digit` meets its contract. Assumes nothing.
+-- `equations::fold_digit` meets its contract: before turn l the first l lanes are the new ones. Assumes nothing.
 use mathlib.Core.Path.{_≡_, ap, _∙_}
 use Prim.Native.Nat.{_+_, _*_, _-_, _≤_}
 use native.Mathlib.Omega.{arith}
@@ -50,7 +50,9 @@ loop-less c = search needs
 loop-again : tie.Need-loop-again Inv-loop μ-loop
 loop-again c =
     let l = c .before .before .loop in
-    (omega arith, simp length-set (l .inv .1), put-turn _ _ _ (l .l) (l .s) (l .inv .2) (λ k h e. omega arith) _ (omega arith) (xor-is-⊕ _ _ ∙ ap (_⊕ vec (c .before .before .before .args .t1) (24 * c .before .before .before .args .b + l .l)) (c .times-root .ensures)))
+    let s = c .before .before .before .args in
+    let e = xor-is-⊕ _ _ ∙ ap (_⊕ vec (s .t1) (24 * s .b + l .l)) (c .times-root .ensures) in
+    (omega arith, simp length-set (l .inv .1), put-turn _ _ _ (l .l) (l .s) (l .inv .2) (λ k h q. omega arith) _ (omega arith) e)
 
 returns : tie.Need-returns Inv-loop μ-loop
 returns c =

@@ -1,15 +1,14 @@
 -- `equations::on_lines` meets its contract: before turn j the first j rows are added. Assumes nothing.
-use mathlib.Core.Path.{_≡_, refl, sym, ap, _∙_}
+use mathlib.Core.Path.{_≡_, sym, ap, _∙_}
 use Prim.Native.Nat.{ℕ, _+_, _-_, _≤_}
 use native.Mathlib.Omega.{arith}
-use lib.ListN.{replicate, getD-replicate}
 use denote.Ref.{now}
 use borrow.Author.Needs.{needs}
 use Rattle.field.specs.Vec.{rowStart}
 use Rattle.field.proofs.Loops.{row-zero, row-turn}
 use Rattle.equations.specs.Lanes.{Masks}
 use Rattle.equations.proofs.Flat.{row-room}
-use Rattle.equations.proofs.Rows.{sofar, sofar-start}
+use Rattle.equations.proofs.Rows.{sofar, sofar-zeros}
 use Rattle.equations.proofs.Evals.{ofRow, ofCross, eval-turn, cross-turn, lines-end}
 use Rattle.equations.proofs.on_lines.Statement.{statement}
 use Rattle.equations.proofs.on_lines.Tie as tie
@@ -27,8 +26,8 @@ loop-holds c =
     let s = c .before .before .args in (
       omega arith,
       sym row-zero,
-      λ v h. sofar-start 24 (λ l. 0) (ofRow (now (s .q)) v) (replicate 24 0) refl (λ l hl. getD-replicate 24 l 0 0 hl),
-      λ v h. sofar-start 24 (λ l. 0) (ofCross (now (s .q)) v) (replicate 24 0) refl (λ l hl. getD-replicate 24 l 0 0 hl),
+      λ v h. sofar-zeros 24 (ofRow (now (s .q)) v),
+      λ v h. sofar-zeros 24 (ofCross (now (s .q)) v),
     )
 
 row-value-requires : tie.Need-row-value-requires Inv-loop μ-loop
@@ -63,8 +62,12 @@ loop-again c =
     let l = c .before .before .before .before .loop in (
       omega arith,
       ap (λ (r : ℕ). r + (l .j + 1)) (l .inv .1) ∙ sym (row-turn (l .j)),
-      λ v h. eval-turn (now (s .q)) v (λ l. 0) (l .z0) _ _ (l .j) (l .inv .2 v h) (c .before .before .row-value .ensures v h) (c .before .add-product .ensures v h),
-      λ v h. cross-turn (now (s .q)) v (λ l. 0) (l .z1) _ _ (l .j) (l .inv .3 v h) (c .before .before .row-value .ensures v h) (c .add-cross .ensures v h),
+      λ v h.
+          eval-turn (now (s .q)) v (λ l. 0) (l .z0) _ _ (l .j) (l .inv .2 v h)
+          (c .before .before .row-value .ensures v h) (c .before .add-product .ensures v h),
+      λ v h.
+          cross-turn (now (s .q)) v (λ l. 0) (l .z1) _ _ (l .j) (l .inv .3 v h)
+          (c .before .before .row-value .ensures v h) (c .add-cross .ensures v h),
     )
 
 returns : tie.Need-returns Inv-loop μ-loop

@@ -1,4 +1,4 @@
--- `equations::put_lane` meets its contract. Assumes nothing.
+-- `equations::put_lane` meets its contract: before turn k the first k vectors have their lane. Assumes nothing.
 use mathlib.Core.Path.{_≡_, refl}
 use Prim.Native.Nat.{_+_, _*_, _-_, _≤_}
 use native.Mathlib.Omega.{arith}

@@ -1,7 +1,8 @@
--- `equations::put_masks` meets its contract. Assumes nothing.
+-- `equations::put_masks` meets its contract: before turn l the first l masks are written. Assumes nothing.
 use mathlib.Core.Path.{_≡_, refl, ap}
 use Prim.Native.Nat.{ℕ, _+_, _*_, _-_, _/_, _%_, _^_, _≤_}
 use native.Mathlib.Omega.{arith}
+use denote.Ref.{now}
 use lib.ListN.{length, length-set}
 use borrow.Author.Needs.{needs}
 use Rattle.equations.specs.Put.{Put}
@@ -63,7 +64,10 @@ loop-again : tie.Need-loop-again Inv-loop μ-loop
 unfolding maskOf
 loop-again c =
     let l = c .before .before .loop in
-    (omega arith, simp length-set (l .inv .1), put-turn _ _ _ (l .l) (l .vectors) (l .inv .2) (λ k h q. omega arith) _ (omega arith) (ap (λ (x : ℕ). x / 2 ^ c .before .before .before .args .b % 2 * 255) (l .inv .2 .others _ (λ k h q. omega arith))))
+    let s = c .before .before .before .args in
+    let kept : lane (l .vectors) (s .k) (l .l) ≡ lane (now (s .vectors)) (s .k) (l .l) = l .inv .2 .others _ (λ k h q. omega arith) in
+    let e = ap (λ (x : ℕ). x / 2 ^ s .b % 2 * 255) kept in
+    (omega arith, simp length-set (l .inv .1), put-turn _ _ _ (l .l) (l .vectors) (l .inv .2) (λ k h q. omega arith) _ (omega arith) e)
 
 same-length : tie.Need-same-length Inv-loop μ-loop
 same-length c = c .before .loop .inv .1

@@ -1,4 +1,4 @@
--- `equations::put_row` meets its contract. Assumes nothing.
+-- `equations::put_row` meets its contract: before turn i the first i products are written. Assumes nothing.
 use mathlib.Core.Path.{_≡_, refl, _∙_}
 use Prim.Native.Nat.{suc, _+_, _-_, _≤_}
 use native.Mathlib.Omega.{arith}
@@ -14,11 +14,11 @@ use Rattle.equations.proofs.put_row.Statement.{statement}
 use Rattle.equations.proofs.put_row.Tie as tie
 
 abbrev Inv-loop : tie.InvT-loop
-Inv-loop w₀ row j x c k₀ w k =
-    (k ≤ suc j) × (length w ≡ length w₀) × Put w₀ k (λ k. row + k) (λ k. vec x k ⊗ vec x j) w
+Inv-loop w₀ row j x c i₀ w i =
+    (i ≤ suc j) × (length w ≡ length w₀) × Put w₀ i (λ k. row + k) (λ k. vec x k ⊗ vec x j) w
 
 abbrev μ-loop : tie.MeasureT-loop
-μ-loop w₀ row j x c k₀ w k = suc j - k
+μ-loop w₀ row j x c i₀ w i = suc j - i
 
 array-read-c : tie.Need-array-read-c Inv-loop μ-loop
 array-read-c c = search needs
@@ -38,8 +38,8 @@ add-w c = omega (arith, row-room (c .before .before .before .before .args .j) (o
 slice-write-w : tie.Need-slice-write-w Inv-loop μ-loop
 slice-write-w c = omega (arith, row-room (c .before .before .before .before .args .j) (omega arith))
 
-add-k : tie.Need-add-k Inv-loop μ-loop
-add-k c = search needs
+add-i : tie.Need-add-i Inv-loop μ-loop
+add-i c = search needs
 
 loop-less : tie.Need-loop-less Inv-loop μ-loop
 loop-less c = search needs
@@ -47,7 +47,9 @@ loop-less c = search needs
 loop-again : tie.Need-loop-again Inv-loop μ-loop
 loop-again c =
     let l = c .before .before .loop in
-    (omega arith, simp length-set (l .inv .1), put-turn _ _ _ (l .k) (l .w) (l .inv .2) (λ k h q. omega arith) _ (omega (arith, row-room (c .before .before .before .before .args .j) (omega arith))) (c .mul .ensures ∙ ⊗-comm _ _))
+    let r = row-room (c .before .before .before .before .args .j) (omega arith) in
+    let e = c .mul .ensures ∙ ⊗-comm _ _ in
+    (omega arith, simp length-set (l .inv .1), put-turn _ _ _ (l .i) (l .w) (l .inv .2) (λ k h q. omega arith) _ (omega arith) e)
 
 same-length : tie.Need-same-length Inv-loop μ-loop
 same-length c = c .before .loop .inv .1
@@ -55,7 +57,7 @@ same-length c = c .before .loop .inv .1
 returns : tie.Need-returns Inv-loop μ-loop
 returns c =
     let l = c .before .loop in
-    put-end _ (l .k) _ _ _ (l .w) (omega arith) (omega arith) (l .inv .2)
+    put-end _ (l .i) _ _ _ (l .w) (omega arith) (omega arith) (l .inv .2)
 
 pub put-row-spec : {M : Type 1} → statement M
 put-row-spec =
@@ -69,7 +71,7 @@ put-row-spec =
     mul-requires
     add-w
     slice-write-w
-    add-k
+    add-i
     loop-less
     loop-again
     same-length

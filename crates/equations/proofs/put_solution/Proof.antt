@@ -1,4 +1,4 @@
--- `equations::put_solution` meets its contract. Assumes nothing.
+-- `equations::put_solution` meets its contract: three writes, one after the other. Assumes nothing.
 use native.Mathlib.Omega.{arith}
 use borrow.Author.Needs.{needs}
 use Rattle.equations.proofs.Solution.{own-is}
@@ -21,7 +21,10 @@ same-length : tie.Need-same-length
 same-length c = search needs
 
 returns : tie.Need-returns
-returns c = own-is _ _ _ _ _ _ (c .before .before .before .before .before .before .before .before .before .before .before .clear-points .ensures) (omega arith) (c .before .before .before .before .before .before .before .put-point .ensures) (c .before .before .put-lane .ensures) (c .before .before .before .all-lifted .ensures)
+returns c =
+    let cleared = c .before .before .before .before .before .before .before .before .before .before .before .clear-points .ensures in
+    let pointed = c .before .before .before .before .before .before .before .put-point .ensures in
+    own-is _ _ _ _ _ _ cleared (omega arith) pointed (c .before .before .put-lane .ensures) (c .before .before .before .all-lifted .ensures)
 
 pub put-solution-spec : {M : Type 1} → statement M
 put-solution-spec =

@@ -1,4 +1,4 @@
--- `equations::put_unknowns` meets its contract. Assumes nothing.
+-- `equations::put_unknowns` meets its contract: before turn k the first k unknowns are written. Assumes nothing.
 use mathlib.Core.Path.{_≡_, refl}
 use Prim.Native.Nat.{_+_, _-_, _≤_}
 use native.Mathlib.Omega.{arith}

@@ -1,4 +1,4 @@
--- `equations::rooted` meets its contract. Assumes nothing.
+-- `equations::rooted` meets its contract: before turn l the first l lanes are the new ones. Assumes nothing.
 use mathlib.Core.Path.{_≡_}
 use Prim.Native.Nat.{_-_, _≤_}
 use native.Mathlib.Omega.{arith}

@@ -1,20 +1,17 @@
 -- `equations::row_value` meets its contract: before turn k the first k terms of the row are added. Assumes nothing.
-use mathlib.Core.Path.{_≡_, refl, _∙_}
+use mathlib.Core.Path.{_≡_, _∙_}
 use Prim.Native.Nat.{suc, _-_, _≤_}
 use native.Mathlib.Omega.{arith}
-use lib.ListN.{replicate, getD-replicate}
 use denote.Ref.{now}
 use borrow.Author.Needs.{needs}
-use Rattle.octets.specs.Lists.{view}
-use Rattle.equations.proofs.Rows.{sofar, sofar-first, sofar-turn}
 use Rattle.equations.proofs.Flat.{row-room}
-use Rattle.equations.proofs.Evals.{masked, row-is}
+use Rattle.equations.proofs.Evals.{rowTo, row-first, row-more, row-is}
 use Rattle.equations.proofs.row_value.Statement.{statement}
 use Rattle.equations.proofs.row_value.Tie as tie
 
 abbrev Inv-loop : tie.InvT-loop
 Inv-loop m q row j a₀ k₀ a k =
-    (k ≤ suc j) × (a ≡ sofar 192 (masked m 56 (view q 1596 j)) (λ i. masked m i (view q row i)) k)
+    (k ≤ suc j) × (a ≡ rowTo m q row j k)
 
 abbrev μ-loop : tie.MeasureT-loop
 μ-loop m q row j a₀ k₀ a k = suc j - k
@@ -31,7 +28,7 @@ add-masked-requires c κs = search needs
 loop-holds : tie.Need-loop-holds Inv-loop μ-loop
 loop-holds c =
     let s = c .before .before .before .before .args in
-    (omega arith, c .add-masked .ensures ∙ sofar-first 192 (masked (now (s .m)) 56 (view (now (s .q)) 1596 (s .j))) (λ i. masked (now (s .m)) i (view (now (s .q)) (s .row) i)) (replicate 192 0) (λ i h. getD-replicate 192 i 0 0 h))
+    (omega arith, row-first (now (s .m)) (now (s .q)) (s .row) (s .j) _ (c .add-masked .ensures))
 
 add-add-masked-2 : tie.Need-add-add-masked-2 Inv-loop μ-loop
 add-add-masked-2 c =
@@ -56,7 +53,7 @@ loop-again : tie.Need-loop-again Inv-loop μ-loop
 loop-again c =
     let s = c .before .before .before .before .before .before .before .before .args in
     let l = c .before .before .before .loop in
-    (omega arith, c .add-masked2 .ensures ∙ sofar-turn 192 (masked (now (s .m)) 56 (view (now (s .q)) 1596 (s .j))) (λ i. masked (now (s .m)) i (view (now (s .q)) (s .row) i)) (l .a) _ (l .k) (l .inv .1) (λ i h. refl))
+    (omega arith, row-more (now (s .m)) (now (s .q)) (s .row) (s .j) (l .a) _ (l .k) (l .inv .1) (c .add-masked2 .ensures))
 
 fold-requires : tie.Need-fold-requires Inv-loop μ-loop
 fold-requires c κs = search needs

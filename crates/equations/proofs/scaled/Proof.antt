@@ -1,7 +1,6 @@
--- `equations::scaled` meets its contract. Assumes nothing.
+-- `equations::scaled` meets its contract: a sum of one term, folded. Assumes nothing.
 use mathlib.Core.Path.{_∙_}
 use native.Mathlib.Omega.{arith}
-use lib.ListN.{replicate, getD-replicate}
 use denote.Ref.{now}
 use borrow.Author.Needs.{needs}
 use Rattle.equations.proofs.Evals.{scaled-is}
@@ -17,7 +16,7 @@ fold-requires c κs = search needs
 returns : tie.Need-returns
 returns c =
     let s = c .before .before .before .args in
-    λ v h. c .fold .ensures ∙ scaled-is (now (s .m)) v h (replicate 192 0) _ (s .k) (s .c) (omega arith) (λ i hi. getD-replicate 192 i 0 0 hi) (c .before .add-masked .ensures)
+    λ v h. c .fold .ensures ∙ scaled-is (now (s .m)) v h _ (s .k) (s .c) (omega arith) (c .before .add-masked .ensures)
 
 pub scaled-spec : {M : Type 1} → statement M
 scaled-spec = tie.close (tie.spec add-masked-requires fold-requires returns)

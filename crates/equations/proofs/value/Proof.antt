@@ -20,7 +20,9 @@ dot-requires : tie.Need-dot-requires
 dot-requires c κs = search needs
 
 returns : tie.Need-returns
-returns c = λ x h. c .dot .ensures ∙ flat-value (now (c .before .before .before .before .args .q)) (now (c .before .before .before .before .args .w)) x (omega arith) h
+returns c =
+    let s = c .before .before .before .before .args in
+    λ x h. c .dot .ensures ∙ flat-value (now (s .q)) (now (s .w)) x (omega arith) h
 
 pub value-spec : {M : Type 1} → statement M
 value-spec = tie.close (tie.spec sub-dot part-dot-start part-dot-end dot-requires returns)
