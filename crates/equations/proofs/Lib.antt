@@ -7,3 +7,4 @@ pub mod Flat
 pub mod Spreading
 pub mod Solution
 pub mod Evals
+pub mod Blocks
