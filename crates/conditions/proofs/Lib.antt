@@ -1,0 +1,3 @@
+pub mod Condition1
+pub mod Condition2
+pub mod Condition3

@@ -1,0 +1,12 @@
+pub mod Nested
+pub mod Asked
+pub mod Outcomes
+pub mod Unique
+pub mod Branches
+pub mod Search
+pub mod Exactly
+pub mod Table
+pub mod Edges
+pub mod Octets
+pub mod Parts
+pub mod Made

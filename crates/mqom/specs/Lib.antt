@@ -1,0 +1,4 @@
+pub mod Outcome
+pub mod Calls
+pub mod Words
+pub mod Fields
