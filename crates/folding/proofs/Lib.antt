@@ -1,0 +1,6 @@
+pub mod Lowest
+pub mod Tape
+pub mod Horner
+pub mod Octets
+pub mod Folds
+pub mod Values
