@@ -9,3 +9,4 @@ pub mod Unpacked
 pub mod Closed
 pub mod Examples
 pub mod Folding
+pub mod Signed
