@@ -4,7 +4,7 @@ use mathlib.Core.List.{List}
 use Prim.Native.Nat.{ℕ, _+_, _*_, _<_}
 use lib.ListN.{length}
 use Rattle.octets.specs.Lists.{vec, tab, part, joined}
-use Rattle.algebra.specs.Line.{IsRow, Solves, Opens, alpha1, batch, zAt, valueOf, checked0}
+use Rattle.algebra.specs.Line.{IsRow, Solves, Opens, alpha1, batch, zAt, valueOf, checked0, line}
 use Rattle.octets.proofs.Tab.{length-tab, vec-tab}
 use Rattle.octets.specs.Xor.{_⊕_}
 use Rattle.octets.proofs.Xor.{⊕-zero-l}
@@ -12,11 +12,11 @@ use Rattle.field.specs.Gf.{_⊗_}
 use Rattle.field.specs.Vec.{sum, skip}
 use Rattle.field.proofs.Field.{⊗-zero-l}
 use Rattle.algebra.proofs.Opening.{value-spread}
-use Rattle.algebra.proofs.Lines.{complete-tab}
+use Rattle.algebra.proofs.Lines.{complete-tab, vx-is, vu-is}
 use Rattle.paper.specs.Keys.{equation}
 use Rattle.field.specs.Vec.{lifted}
 use Rattle.algebra.specs.Folding.{point}
-use Rattle.paper.specs.Commit.{xPart, uPart, sharesAt, sentAt, pathAt, tapeIn, correctionIn, xEval, uEval}
+use Rattle.paper.specs.Commit.{xPart, uPart, sharesAt, sentAt, pathAt, tapeIn, correctionIn, xEval, uEval, u0At, u1At, x0At}
 use Rattle.paper.specs.Alpha.{Variant, r3, r5, HasRows, settingOf, alpha0At, alpha1At, alpha0In}
 use Rattle.octets.proofs.Part.{part-joined}
 use Rattle.paper.proofs.Commit.{tape-same, correction-same, lifted-is}
@@ -97,6 +97,19 @@ module _ (v : Variant) (c1 mseedEq y mseed salt x : List ℕ) where
       d-same = λ q hq. ap (λ (t : List ℕ). lifted t q) (correction-same mseed salt x hm hx i hi (v .eta) e he) ∙ lifted-is mseed salt x hm hx (v .eta) e q hq;
       a1-same = λ j row. alpha1-in e he j (shape .below c1 j row);
     }
+
+    -- Opening: what the checker works out at the hidden leaf's point are the values of the signer's lines there
+    pub xEval-line : (e : ℕ) → e < 17 → (q : ℕ) → q < 56
+        → xEval (v .eta) salt paths sent e (i e) q ≡ line (lifted x q) (x0At (v .eta) mseed salt x e q) (point (i e))
+    xEval-line e he q hq =
+        xEval-folded (v .eta) salt paths sent e (i e) q
+        ∙ vx-is (settingOf v c1 mseedEq y) (sharesAt (v .eta) mseed salt x e) (i e) _ _ _ _ (opens e he) q hq
+
+    pub uEval-line : (e : ℕ) → e < 17 → (j : ℕ) → j < v .eta
+        → uEval (v .eta) salt paths sent e (i e) j ≡ line (u1At (v .eta) mseed salt x e j) (u0At (v .eta) mseed salt x e j) (point (i e))
+    uEval-line e he j hj =
+        uEval-folded (v .eta) salt paths sent e (i e) j
+        ∙ vu-is (settingOf v c1 mseedEq y) (sharesAt (v .eta) mseed salt x e) (i e) _ _ _ _ (opens e he) j (shape .row c1 j hj)
 
     pub alpha0-same : ((q : ℕ) → q < 28 → Solves 56 (equation mseedEq y q) (lifted x)) → (e : ℕ) → e < 17
         → alpha0In v c1 mseedEq y salt paths sent a1 i e ≡ alpha0At v c1 mseedEq y mseed salt x e
