@@ -1,0 +1,3 @@
+pub mod Octets
+pub mod Inputs
+pub mod Nonces
