@@ -1,0 +1,5 @@
+# make test: the gate, every proof and every test. make demo: a key made, a file signed and checked.
+test:
+	bash .ci/run
+
+.PHONY: test
