@@ -59,3 +59,7 @@ spreading-turn d e e' n s p =
 
 pub spreading-end : (d e : List ℕ) (n : ℕ) → 57 ≤ n → Spreading d n e → Masks e (lane d)
 spreading-end d e n h s = record { at = λ k b l hk hb hl. s .masks k (omega arith) b l hb hl }
+
+-- masks are those of any vectors with the same elements
+pub masks-ext : (m : List ℕ) (v v' : ℕ → ℕ → ℕ) → ((k l : ℕ) → k < 57 → l < 24 → v k l ≡ v' k l) → Masks m v → Masks m v'
+masks-ext m v v' h masks = record { at = λ k b l hk hb hl. masks .at k b l hk hb hl ∙ ap (λ (x : ℕ). maskOf x b) (h k l hk hl) }
