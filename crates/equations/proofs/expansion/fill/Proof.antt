@@ -12,7 +12,7 @@ use borrow.Author.Needs.{needs}
 use Rattle.octets.specs.Lists.{bytesOf}
 use Rattle.octets.proofs.Part.{length-bytesOf}
 use Rattle.octets.proofs.Place.{length-place}
-use Rattle.aes.proofs.Blocks.{length-block}
+use Rattle.aes.proofs.Blocks.{length-blockOf}
 use Rattle.equations.proofs.expansion.fill.Statement.{statement}
 use Rattle.equations.proofs.expansion.fill.Tie as tie
 
@@ -52,7 +52,7 @@ loop-again c =
     let e = c .before .store .ensures in (
       omega arith,
       ap length e ∙ length-place _ _ _ ∙ l .inv .1,
-      blocks-turn (blockOf s) (length-block s) (l .q) (blockOf (y .result)) (l .i) (omega arith) (l .inv .1) (l .inv .2) (y .ensures) e,
+      blocks-turn (blockOf s) (length-blockOf s) (l .q) (blockOf (y .result)) (l .i) (omega arith) (l .inv .1) (l .inv .2) (y .ensures) e,
     )
 
 plain-block-requires-2 : tie.Need-plain-block-requires-2 Inv-loop μ-loop
@@ -69,7 +69,7 @@ returns c =
     let l = c .before .before .before .before .before .loop in
     let s = c .before .before .before .before .before .before .before .args .s in
     let y = c .before .before .before .plain-block2 in
-    blocks-end (blockOf s) (length-block s) (l .q) (blockOf (y .result)) (bytesOf 4 (y .result .a)) (l .i) (omega arith) (l .inv .1) (l .inv .2)
+    blocks-end (blockOf s) (length-blockOf s) (l .q) (blockOf (y .result)) (bytesOf 4 (y .result .a)) (l .i) (omega arith) (l .inv .1) (l .inv .2)
     (y .ensures) (first-word (y .result)) (length-bytesOf 4 (y .result .a)) (c .before .store-word .ensures)
 
 pub fill-spec : {M : Type 1} → statement M
