@@ -1,8 +1,7 @@
 -- The routines of document 001 (algorithms 17 to 20), and what a tree's leaves are made into, by expanded keys. Assumes nothing.
-use mathlib.Core.Path.{_≡_, refl, sym, ap, ap₂, _∙_}
+use mathlib.Core.Path.{_≡_, sym, ap, ap₂, _∙_}
 use mathlib.Core.List.{List, _++_, append-nil}
 use Prim.Native.Nat.{ℕ, _+_, _-_, _*_, _<_, _≤_}
-use native.Mathlib.Nat.{mul-comm}
 use native.Mathlib.Omega.{arith}
 use lib.Bits.{bitXor, xor-shifted}
 use lib.Dec.{lit<}
@@ -15,7 +14,7 @@ use Rattle.octets.proofs.Frame.{part-add}
 use Rattle.aes.specs.Cipher.{cipher, expandKey}
 use Rattle.aes.proofs.Octets.{bytesOf-⊕}
 use Rattle.aes.proofs.Bounds.{aes128-is, length-cipher}
-use Rattle.paper.specs.Symmetric.{selectors, selector, enc, tweakSalt, psi, seedDerive, seedCommit, prgBlock, prg, derive, commitFirst, commitSecond, expand}
+use Rattle.paper.specs.Symmetric.{selectors, selector, enc, tweakSalt, psi, seedDerive, seedCommit, prgBlock, prg, commitFirst, commitSecond}
 use Rattle.paper.specs.Commit.{deriveIn, leafCom, tape}
 use Rattle.paper.proofs.Symmetric.{length-psi}
 use Rattle.seeds.specs.Expanded.{deriveWith, keyAt, plainKeys, treeKey, treeKeys}
