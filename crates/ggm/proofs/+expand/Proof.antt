@@ -6,7 +6,7 @@ use native.Mathlib.Omega.{arith}
 use lib.ListN.{length, length-take}
 use Rattle.octets.proofs.Place.{place-whole}
 use Rattle.aes.specs.Words.{blockOf}
-use Rattle.aes.proofs.Blocks.{length-block}
+use Rattle.aes.proofs.Blocks.{length-blockOf}
 use Rattle.tree.proofs.Powers.{pow-half, two-zero}
 use Rattle.tree.proofs.Depth.{leaves-zero, leaves-join}
 use Rattle.tree.proofs.Halves.{rest-length, both}
@@ -91,7 +91,7 @@ expand-returns t c = let b = c .before .before .before .before .before .before .
     let z = c .before .before .before .before .if1 .taken in
     let p = two-zero z in
     let e : 16 ≡ length (b .args .buf .now) = omega arith in
-    c .before .before .store .ensures ∙ place-whole (blockOf (b .args .s)) (b .args .buf .now) (length-block (b .args .s) ∙ e)
+    c .before .before .store .ensures ∙ place-whole (blockOf (b .args .s)) (b .args .buf .now) (length-blockOf (b .args .s) ∙ e)
     ∙ sym (leaves-zero (deriveBy (b .args .keys .now)) (b .args .d) (b .args .j) (blockOf (b .args .s)) z)
 
 expand-same-length-2 : (t : ℕ) → expand-lts.Need-same-length-2 (calls t) (expand-at t) expand.Post
@@ -99,13 +99,14 @@ expand-same-length-2 t c = search needs
 
 expand-returns-2 : (t : ℕ) → expand-lts.Need-returns-2 (calls t) (expand-at t) expand.Post
 expand-returns-2 t c = let b = c .before .before .before .before .before .before .before .before .before .before .before .before .before in
+    let n = c .before .before .before .before .before .before .before .before in
     let e = c .before .before .before .before .before .before .expand in
     let e2 = c .before .before .expand2 in
     let xs = b .args .buf .now in
     let h = length xs / 2 in
     let fits : h ≤ length xs = omega arith in
     both xs (e .last .1 .1 .0) h fits (e .kept .1 .1 .0) (e2 .last .1 .1 .0)
-    ∙ leaves-join (deriveBy (b .args .keys .now)) (b .args .d) (b .args .j) (blockOf (b .args .s)) _ _ _ _ (c .before .before .before .before .before .before .before .before .before .before .if1 .left) (c .before .before .before .before .before .before .before .before .before .child .ensures) (c .before .before .before .before .before .before .before .before .add .ensures) (e .ensures) (e2 .ensures)
+    ∙ leaves-join (deriveBy (b .args .keys .now)) (b .args .d) (b .args .j) (blockOf (b .args .s)) _ _ _ _ (n .before .before .if1 .left) (n .before .child .ensures) (n .add .ensures) (e .ensures) (e2 .ensures)
 
 pub +expand-spec : {M : Type 1} → statement M
 +expand-spec = close μ-expand λ t. expand-lts.spec (calls t)

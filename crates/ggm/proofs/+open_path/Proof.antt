@@ -5,7 +5,7 @@ use Prim.Native.Nat.{_+_, _-_, _*_}
 use native.Mathlib.Omega.{arith}
 use lib.ListN.{length, length-take}
 use Rattle.aes.specs.Words.{blockOf}
-use Rattle.aes.proofs.Blocks.{length-block}
+use Rattle.aes.proofs.Blocks.{length-blockOf}
 use Rattle.tree.proofs.Powers.{pow-half}
 use Rattle.tree.proofs.Depth.{path-zero, path-join-left, path-join-right}
 use Rattle.ggm.specs.Ggm.{deriveBy}
@@ -113,7 +113,7 @@ open-path-returns-2 t c = let b = c .before .before .before .before .before .bef
     let l = c .before .before .before .before .before .before .before .before .before .before .child .ensures in
     let r = c .before .before .before .before .before .before .before .before .before .add .ensures in
     let k = c .before .before .before .before .before .before .before .before .before .add .result in
-    let m : length (a .path .now) ≡ 16 * (a .d - 1) + length (blockOf k) = omega (arith, length-block k) in
+    let m : length (a .path .now) ≡ 16 * (a .d - 1) + length (blockOf k) = omega (arith, length-blockOf k) in
     let p = drop-place (16 * (a .d - 1)) (blockOf k) (a .path .now) (c .before .before .before .before .before .before .store .ensures) m in (
       path-join-left f (a .d) (a .j) (a .hidden) _ (blockOf (a .s)) _ _ _ _ z n h l r (e .ensures .0) p,
       leaf-join-left f (a .d) (a .j) (a .hidden) _ (blockOf (a .s)) _ _ z n h l (e .ensures .1),
@@ -133,7 +133,7 @@ open-path-returns-3 t c = let b = c .before .before .before .before .before .bef
     let l = c .before .before .before .before .before .before .before .before .before .before .child .ensures in
     let r = c .before .before .before .before .before .before .before .before .before .add .ensures in
     let k = c .before .before .before .before .before .before .before .before .before .before .child .result in
-    let m : length (a .path .now) ≡ 16 * (a .d - 1) + length (blockOf k) = omega (arith, length-block k) in
+    let m : length (a .path .now) ≡ 16 * (a .d - 1) + length (blockOf k) = omega (arith, length-blockOf k) in
     let p = drop-place (16 * (a .d - 1)) (blockOf k) (a .path .now) (c .before .before .before .before .before .before .store2 .ensures) m in (
       path-join-right f (a .d) (a .j) (a .hidden) _ (blockOf (a .s)) _ _ _ _ z n h l r (e .ensures .0) p,
       leaf-join-right f (a .d) (a .j) (a .hidden) _ (blockOf (a .s)) _ _ _ z n h l r (e .ensures .1),

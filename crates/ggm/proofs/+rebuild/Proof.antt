@@ -144,13 +144,14 @@ rebuild-same-length-2 t c = search needs
 rebuild-returns-2 : (t : ℕ) → rebuild-lts.Need-returns-2 (calls t) (rebuild-at t) rebuild.Post
 rebuild-returns-2 t c = let b = c .before .before .before .before .before .before .before .before .before .before .before .before .before .before .before in
     let a = b .args in
+    let n = c .before .before .before .before .before .before .before .before in
     let e = c .before .before .before .before .before .before .rebuild in
     let e2 = c .before .before .expand in
     let xs = a .buf .now in
     let h = length xs / 2 in
     let fits : h ≤ length xs = omega arith in
     both xs (e .last .1 .1 .0) h fits (e .kept .1 .1 .0) (e2 .last .1 .1 .0)
-    ∙ rebuild-join-left (deriveBy (a .keys .now)) (a .d) (a .j) (a .hidden) _ (a .path .now) _ _ _ (c .before .before .before .before .before .before .before .before .before .before .before .if1 .left) (c .before .before .before .before .before .before .before .before .before .before .half .ensures) (c .before .before .before .before .before .before .before .before .if2 .taken) (c .before .before .before .before .before .before .before .before .before .load .ensures) (e .ensures) (e2 .ensures)
+    ∙ rebuild-join-left (deriveBy (a .keys .now)) (a .d) (a .j) (a .hidden) _ (a .path .now) _ _ _ (n .before .before .before .if1 .left) (n .before .before .half .ensures) (n .if2 .taken) (n .before .load .ensures) (e .ensures) (e2 .ensures)
 
 rebuild-same-length-3 : (t : ℕ) → rebuild-lts.Need-same-length-3 (calls t) (rebuild-at t) rebuild.Post
 rebuild-same-length-3 t c = search needs
@@ -158,13 +159,14 @@ rebuild-same-length-3 t c = search needs
 rebuild-returns-3 : (t : ℕ) → rebuild-lts.Need-returns-3 (calls t) (rebuild-at t) rebuild.Post
 rebuild-returns-3 t c = let b = c .before .before .before .before .before .before .before .before .before .before .before .before .before .before .before in
     let a = b .args in
+    let n = c .before .before .before .before .before .before .before .before in
     let e = c .before .before .before .before .before .before .expand2 in
     let e2 = c .before .before .rebuild2 in
     let xs = a .buf .now in
     let h = length xs / 2 in
     let fits : h ≤ length xs = omega arith in
     both xs (e .last .1 .1 .0) h fits (e .kept .1 .1 .0) (e2 .last .1 .1 .0)
-    ∙ rebuild-join-right (deriveBy (a .keys .now)) (a .d) (a .j) (a .hidden) _ (a .path .now) _ _ _ (c .before .before .before .before .before .before .before .before .before .before .before .if1 .left) (c .before .before .before .before .before .before .before .before .before .before .half .ensures) (c .before .before .before .before .before .before .before .before .if2 .left) (c .before .before .before .before .before .before .before .before .before .load .ensures) (e .ensures) (e2 .ensures)
+    ∙ rebuild-join-right (deriveBy (a .keys .now)) (a .d) (a .j) (a .hidden) _ (a .path .now) _ _ _ (n .before .before .before .if1 .left) (n .before .before .half .ensures) (n .if2 .left) (n .before .load .ensures) (e .ensures) (e2 .ensures)
 
 pub +rebuild-spec : {M : Type 1} → statement M
 +rebuild-spec = close μ-rebuild λ t. rebuild-lts.spec (calls t)

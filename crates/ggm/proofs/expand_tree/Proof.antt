@@ -21,7 +21,9 @@ slice-aggregate-expand : tie.Need-slice-aggregate-expand
 slice-aggregate-expand c = simp length-take (omega arith)
 
 expand-requires : tie.Need-expand-requires
-expand-requires c κs = (c .before .before .before .before .pre .0, (c .before .before .before .before .pre .1 .0, simp length-take (omega arith), omega arith, omega arith))
+expand-requires c κs =
+    let pre = c .before .before .before .before .pre in
+    (pre .0, (pre .1 .0, simp length-take (omega arith), omega arith, omega arith))
 
 sub-expand : tie.Need-sub-expand
 sub-expand c = search needs

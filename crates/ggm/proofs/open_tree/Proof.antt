@@ -4,7 +4,7 @@ use Prim.Native.Nat.{_+_}
 use native.Mathlib.Omega.{arith}
 use lib.ListN.{length, length-take}
 use Rattle.aes.specs.Words.{blockOf}
-use Rattle.aes.proofs.Blocks.{length-block}
+use Rattle.aes.proofs.Blocks.{length-blockOf}
 use Rattle.tree.proofs.Depth.{tree-path-left, tree-path-right}
 use Rattle.ggm.specs.Ggm.{deriveBy}
 use Rattle.ggm.proofs.Octets.{drop-place}
@@ -26,7 +26,9 @@ slice-aggregate-open-path : tie.Need-slice-aggregate-open-path
 slice-aggregate-open-path c = simp length-take (omega arith)
 
 open-path-requires : tie.Need-open-path-requires
-open-path-requires c κs = (c .before .before .before .before .before .before .before .before .before .pre .0, (c .before .before .before .before .before .before .before .before .before .pre .1 .0, simp length-take (omega arith), omega arith, omega arith, omega arith))
+open-path-requires c κs =
+    let pre = c .before .before .before .before .before .before .before .before .before .pre in
+    (pre .0, (pre .1 .0, simp length-take (omega arith), omega arith, omega arith, omega arith))
 
 store-requires-2 : tie.Need-store-requires-2
 store-requires-2 c κs = search needs
@@ -38,7 +40,9 @@ slice-aggregate-open-path-2 : tie.Need-slice-aggregate-open-path-2
 slice-aggregate-open-path-2 c = simp length-take (omega arith)
 
 open-path-requires-2 : tie.Need-open-path-requires-2
-open-path-requires-2 c κs = (c .before .before .before .before .before .before .before .before .before .pre .0, (c .before .before .before .before .before .before .before .before .before .pre .1 .0, simp length-take (omega arith), omega arith, omega arith, omega arith))
+open-path-requires-2 c κs =
+    let pre = c .before .before .before .before .before .before .before .before .before .pre in
+    (pre .0, (pre .1 .0, simp length-take (omega arith), omega arith, omega arith, omega arith))
 
 same-length : tie.Need-same-length
 same-length c = search needs
@@ -52,7 +56,7 @@ returns c =
     let h = c .before .before .before .before .before .before .before .before .if1 .taken in
     let o = c .before .before .before .before .before .before .before .before .before .add .ensures in
     let k = c .before .before .before .before .before .before .before .before .before .add .result in
-    let m : length (a .path .now) ≡ 112 + length (blockOf k) = omega (arith, length-block k, b .pre .1 .1) in
+    let m : length (a .path .now) ≡ 112 + length (blockOf k) = omega (arith, length-blockOf k, b .pre .1 .1) in
     let p = drop-place 112 (blockOf k) (a .path .now) (c .before .before .before .before .before .before .store .ensures) m in
     (tree-path-left f 7 (a .hidden) 128 (blockOf (a .r)) (blockOf (a .delta)) _ _ _ refl h o (e .ensures .0) p, tree-leaf-left f 7 (a .hidden) 128 (blockOf (a .r)) (blockOf (a .delta)) _ refl h (e .ensures .1))
 
@@ -68,7 +72,7 @@ returns-2 c =
     let h = c .before .before .before .before .before .before .before .before .if1 .left in
     let o = c .before .before .before .before .before .before .before .before .before .add .ensures in
     let k = a .r in
-    let m : length (a .path .now) ≡ 112 + length (blockOf k) = omega (arith, length-block k, b .pre .1 .1) in
+    let m : length (a .path .now) ≡ 112 + length (blockOf k) = omega (arith, length-blockOf k, b .pre .1 .1) in
     let p = drop-place 112 (blockOf k) (a .path .now) (c .before .before .before .before .before .before .store2 .ensures) m in
     (tree-path-right f 7 (a .hidden) 128 (blockOf (a .r)) (blockOf (a .delta)) _ _ _ refl h o (e .ensures .0) p, tree-leaf-right f 7 (a .hidden) 128 (blockOf (a .r)) (blockOf (a .delta)) _ _ refl h o (e .ensures .1))
 
