@@ -1,7 +1,7 @@
 // The Fiat-Shamir hash and SampleChallenge of document 001 (algorithm 3, line 9; algorithm 4). Every hash input but the message is a flat
 // buffer that starts with its selector.
 ghost use mathlib.Core.Path.{_≡_};
-ghost use mathlib.Core.List.{List, _∷_, _++_};
+ghost use mathlib.Core.List.{_∷_, _++_};
 ghost use Prim.Native.Nat.{_+_, _≤_};
 ghost use lib.ListN.{length};
 ghost use Rattle.octets.specs.Lists.{part, bytesOf};
@@ -101,7 +101,7 @@ fn test(nonce: u32, p: &mut [u8]) -> bool
     passes(&c)
 }
 
-// The first of so many nonces that passes (algorithm 4, lines 1 to 4).
+// The first of so many nonces that passes (algorithm 4, lines 1 to 5).
 pub fn first_nonce(hash: &[u8], tries: u32) -> Search
     requires { ⌜ length (now hash) ≡ 32 ⌝ }
     ensures { λ r. ⌜ r ≡ searchOf (firstBelow (λ n. passesOf (challenge (now (hash .entry)) (bytesOf 4 n))) tries) ⌝ }
