@@ -1,11 +1,11 @@
--- `shake::chi_iota` meets its contract. Assumes nothing.
+-- `shake::keccak::chi_iota` meets its contract. Assumes nothing.
 use mathlib.Core.Path.{refl}
 use borrow.Author.Needs.{needs}
 use Rattle.octets.specs.Xor.{_⊕_}
 use Rattle.octets.specs.Lists.{tab}
 use Rattle.shake.specs.Keccak.{unless, chi, iota}
-use Rattle.shake.proofs.chi_iota.Statement.{statement}
-use Rattle.shake.proofs.chi_iota.Tie as tie
+use Rattle.shake.proofs.keccak.chi_iota.Statement.{statement}
+use Rattle.shake.proofs.keccak.chi_iota.Tie as tie
 
 array-read-a0 : tie.Need-array-read-a0
 array-read-a0 c = search needs
