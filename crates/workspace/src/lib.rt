@@ -34,13 +34,20 @@ pub const COM2_END: usize = 43353;
 
 pub const ROOTS: usize = 43360;
 
+// text is written into out from place at on.
+pub fn put(text: &[u8], out: &mut [u8], at: usize)
+    requires { ⌜ at + length (now text) ≤ length (now out) ⌝ }
+    ensures { λ _. ⌜ now (out .exit) ≡ place at (now (text .entry)) (now (out .entry)) ⌝ }
+{
+    octets::copy(text, &mut out[at..at + text.len()]);
+}
+
 // hash_ls_com[e] at its place.
 pub fn keep_hash(work: &mut [u8], e: usize, h: [u8; 32])
     requires { ⌜ (length (now work) ≡ 65536) × (e < 17) ⌝ }
     ensures { λ _. ⌜ now (work .exit) ≡ place (atHashes + 32 * e) h (now (work .entry)) ⌝ }
 {
-    let p = HASHES + 32 * e;
-    octets::copy(&h, &mut work[p..p + 32]);
+    put(&h, work, HASHES + 32 * e);
 }
 
 // com_1: Hash_7 of the hashes and the corrections.
