@@ -3,6 +3,7 @@ pub mod Asked
 pub mod Outcomes
 pub mod Unique
 pub mod Branches
+pub mod Answers
 pub mod Search
 pub mod Exactly
 pub mod Table
