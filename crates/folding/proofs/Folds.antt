@@ -2,7 +2,7 @@
 use mathlib.Core.Path.{_≡_, refl, sym, ap, ap₂, subst, _∙_}
 use mathlib.Core.List.{List}
 use mathlib.Core.Bool.{Bool, true, false, cond}
-use Prim.Native.Nat.{ℕ, suc, _+_, _*_, _<_}
+use Prim.Native.Nat.{ℕ, zero, suc, _+_, _*_, _<_}
 use native.Mathlib.Numerals.{add-one}
 use native.Mathlib.Omega.{arith}
 use lib.Dec.{eqb}
@@ -10,8 +10,9 @@ use borrow.Author.Tests.{eqb-true, eqb-false}
 use lib.ListN.{replicate, getD-replicate}
 use Rattle.octets.specs.Lists.{vec}
 use Rattle.octets.specs.Xor.{_⊕_}
+use Rattle.field.specs.Vec.{skip}
 use Rattle.field.proofs.Sum.{skip-same, skip-other}
-use Rattle.algebra.specs.Folding.{position, turn, folded, hide}
+use Rattle.algebra.specs.Folding.{Folded, position, turn, folded, hide}
 use Rattle.folding.specs.Rows.{Folds, Added}
 
 pub folds-start : (raw : ℕ → ℕ → ℕ) → Folds (replicate 504 0) raw 0
@@ -50,3 +51,25 @@ hide-same i raw k b e = subst (λ (m : ℕ). hide i raw m b ≡ 0) (sym e) (skip
 pub hide-other : (i : ℕ) (raw : ℕ → ℕ → ℕ) (k b : ℕ) → (k ≡ i → ⊥) → hide i raw k b ≡ raw k b
 unfolding hide
 hide-other i raw k b ne = skip-other i (λ k. raw k b) k ne
+
+-- ---- the loop depends on the first n tapes alone
+
+pub folded-ext : (d : ℕ) (raw raw' : ℕ → ℕ → ℕ) (n : ℕ) → ((k : ℕ) → k < n → raw k ≡ raw' k) → folded d raw n ≡ folded d raw' n
+unfolding folded
+folded-ext d raw raw' zero h = refl
+folded-ext d raw raw' (suc n) h =
+    ap₂ (turn (position d n)) (h n (omega arith)) (folded-ext d raw raw' n (λ k hk. h k (omega arith)))
+
+pub folds-ext : (f : List ℕ) (tape tape' : ℕ → List ℕ) (i n : ℕ) → ((k : ℕ) → k < n → tape k ≡ tape' k)
+    → Folds f (hide i (λ k. vec (tape k))) n → Folds f (hide i (λ k. vec (tape' k))) n
+folds-ext f tape tape' i n same F =
+    record { acc = λ b h. F .acc b h ∙ ap (λ (v : Folded). v .acc b) alike; fd = λ j b hj h. F .fd j b hj h ∙ ap (λ (v : Folded). v .fd j b) alike }
+  where
+    masked : ℕ → List ℕ → ℕ → ℕ
+    masked k l = λ b. cond (eqb k i) 0 (vec l b)
+
+    hidden : (k : ℕ) → tape k ≡ tape' k → hide i (λ k. vec (tape k)) k ≡ hide i (λ k. vec (tape' k)) k
+    hidden k e = unfold hide skip in ap (masked k) e
+
+    alike : folded 8 (hide i (λ k. vec (tape k))) n ≡ folded 8 (hide i (λ k. vec (tape' k))) n
+    alike = folded-ext 8 _ _ n (λ k h. hidden k (same k h))

@@ -1,6 +1,6 @@
 -- p_i of algorithm 13 is the place of i's lowest digit 0, and 7 for the last leaf: by a computed test at the 256 leaves; and the loop that looks
 -- for that digit. Assumes nothing.
-use mathlib.Core.Path.{_≡_, sym, ap, _∙_}
+use mathlib.Core.Path.{_≡_, ap}
 use mathlib.Core.Bool.{Bool, cond}
 use Prim.Native.Nat.{ℕ, zero, suc, _+_, _-_, _/_, _%_, _<_, _≤_}
 use native.Mathlib.Omega.{arith}

@@ -1,11 +1,11 @@
 -- What algorithms 10 and 12 make of a buffer that holds the loop's variables after all 256 tapes: x_FOLD and u_FOLD are the constant terms of the
 -- lines, acc the sums of the shares. Leaf i is hidden; none is where i is 256. Assumes nothing.
-use mathlib.Core.Path.{_≡_, refl, sym, ap, ap₂, _∙_, fun-ext}
-use mathlib.Core.List.{List, [], _++_, append-nil}
+use mathlib.Core.Path.{_≡_, sym, ap, ap₂, _∙_, fun-ext}
+use mathlib.Core.List.{List, _++_, append-nil}
 use Prim.Native.Nat.{ℕ, _+_, _*_, _/_, _%_, _^_, _<_, _≤_}
 use native.Mathlib.Nat.{zero-add}
 use native.Mathlib.Omega.{arith}
-use lib.ListN.{length, take, drop, length-append, length-take, length-drop, length-replicate, take-append-drop, drop-of-length-le}
+use lib.ListN.{length, take, drop, length-append, length-drop, take-append-drop, drop-of-length-le}
 use lib.Seq.{take-all, length-take-le}
 use Rattle.octets.specs.Lists.{vec, tab, part, zero16}
 use Rattle.octets.specs.Xor.{_⊕_, xorB}
@@ -17,7 +17,7 @@ use Rattle.field.specs.Vec.{sum, skip, half, lifted}
 use Rattle.field.proofs.Field.{lift-⊕, lift-lt}
 use Rattle.field.proofs.Sum.{sum-ext, skip-other, sum-skip-past}
 use Rattle.algebra.specs.Line.{line, constantOf, correctionOf, valueOf}
-use Rattle.algebra.specs.Folding.{point, folded, accOf, foldOf, hide}
+use Rattle.algebra.specs.Folding.{point, accOf, foldOf, hide}
 use Rattle.algebra.proofs.Fold.{reads-byte, reads-half, folding-acc-hidden, folding-fold-hidden}
 use Rattle.folding.specs.Rows.{Folds, xFold, uFold, uAcc, sent, corrected, xAt, uAt}
 use Rattle.folding.proofs.Octets.{xorB-append}

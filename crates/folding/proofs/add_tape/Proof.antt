@@ -1,8 +1,8 @@
 -- `folding::add_tape` meets its contract. Assumes nothing.
 use Prim.Native.Nat.{_+_, _*_, _-_, _≤_}
 use native.Mathlib.Omega.{arith}
-use lib.ListN.{length, length-set}
-use mathlib.Core.Path.{_≡_, refl}
+use lib.ListN.{length-set}
+use mathlib.Core.Path.{refl}
 use Rattle.folding.proofs.Tape.{Adding, adding-start, adding-turn, adding-end}
 use Rattle.folding.proofs.add_tape.Statement.{statement}
 use Rattle.folding.proofs.add_tape.Tie as tie

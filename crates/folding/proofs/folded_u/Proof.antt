@@ -3,7 +3,6 @@ use mathlib.Core.Path.{_≡_, ap}
 use Prim.Native.Nat.{_+_, _*_, _-_, _^_, _<_, _≤_}
 use native.Mathlib.Omega.{arith}
 use borrow.Author.Needs.{needs}
-use lib.ListN.{length}
 use Rattle.octets.specs.Lists.{vec}
 use Rattle.octets.specs.Xor.{_⊕_}
 use Rattle.field.specs.Gf.{_⊗_}

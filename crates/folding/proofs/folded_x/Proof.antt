@@ -3,7 +3,6 @@ use mathlib.Core.Path.{_≡_, ap₂, _∙_}
 use Prim.Native.Nat.{ℕ, _+_, _*_, _-_, _^_, _<_, _≤_}
 use native.Mathlib.Omega.{arith}
 use borrow.Author.Needs.{needs}
-use lib.ListN.{length}
 use Rattle.octets.specs.Lists.{part}
 use Rattle.octets.specs.Xor.{_⊕_}
 use Rattle.field.specs.Gf.{_⊗_}

@@ -3,7 +3,7 @@ use mathlib.Core.Path.{_≡_}
 use Prim.Native.Nat.{_+_, _-_, _≤_}
 use native.Mathlib.Omega.{arith}
 use Rattle.algebra.specs.Folding.{position}
-use Rattle.folding.proofs.Lowest.{lowest, lowest-position, lowest-start, lowest-found, lowest-turn, lowest-end}
+use Rattle.folding.proofs.Lowest.{lowest, lowest-start, lowest-found, lowest-turn, lowest-end}
 use Rattle.folding.proofs.position.Statement.{statement}
 use Rattle.folding.proofs.position.Tie as tie
 

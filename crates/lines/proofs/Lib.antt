@@ -1,0 +1,5 @@
+pub mod Octets
+pub mod Leaf
+pub mod Stand
+pub mod Signer
+pub mod Checker
