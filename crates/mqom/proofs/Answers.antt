@@ -1,15 +1,19 @@
 -- What a call answers, of how it ends: its contract from the outcome and from what lies in its outputs and workspace. `between` is the
 -- workspace as the work left it, before it was cleared. Assumes nothing.
-use mathlib.Core.Path.{_≡_, refl, ap, _∙_}
+use mathlib.Core.Path.{_≡_, refl, sym, ap, _∙_, subst}
+use mathlib.Core.Bool.{Bool, true, false}
 use mathlib.Core.List.{List}
+use mathlib.Core.Option.{Option, none, some}
 use Prim.Native.Nat.{ℕ}
 use lib.ListN.{length, replicate}
-use Rattle.paper.specs.Keys.{keyGen}
+use Rattle.paper.specs.Keys.{keyGen, satisfied}
+use Rattle.paper.specs.Alpha.{r3}
+use Rattle.paper.specs.Scheme.{signOf}
 use Rattle.mqom.specs.Outcome.{refused, failed, done}
 use Rattle.mqom.specs.Calls.{keygenAll, signAll, checkAll, MakesKeys, SignsMessage, ChecksSignature}
-use Rattle.mqom.specs.Words.{KeygenSized}
+use Rattle.mqom.specs.Words.{KeygenSized, SignSized, Fits, TriesWithin}
 use Rattle.mqom.proofs.Outcomes.{ends-refused, ends-failed, ends-done, keeps-refused, keeps-failed, gives-done}
-use Rattle.mqom.proofs.Branches.{keygen-done}
+use Rattle.mqom.proofs.Branches.{keygen-done, sign-unsatisfied, sign-spent, sign-done}
 
 zeros : (work between work′ : List ℕ) → work′ ≡ replicate (length between) 0 → length between ≡ length work → work′ ≡ replicate (length work) 0
 zeros work between work′ z h = z ∙ ap (λ (n : ℕ). replicate n 0) h
@@ -40,6 +44,27 @@ module _ (sk msg salt mseed : List ℕ) (tries : ℕ) (sig work : List ℕ) wher
       → work′ ≡ replicate (length between) 0 → length between ≡ length work
       → SignsMessage sk msg salt mseed tries sig work 0 sig′ work′
   signs-made between e z h = record { ends = ends-done e (zeros work between _ z h); signature = gives-done e refl }
+
+  -- what the work answers, by cases: whether the solution satisfies the equations, and whether a try passes
+  pub signs-worked : {r : ℕ} {sig′ work′ : List ℕ} (between : List ℕ) → SignSized sk salt mseed (length sig) (length work) → Fits msg → TriesWithin tries
+      → (satisfied sk ≡ false → (r ≡ 4) × (sig′ ≡ sig))
+      → (satisfied sk ≡ true → signOf r3 sk msg salt mseed tries ≡ none → (r ≡ 5) × (sig′ ≡ sig))
+      → (satisfied sk ≡ true → (b : List ℕ) → signOf r3 sk msg salt mseed tries ≡ some b → (r ≡ 0) × (sig′ ≡ b))
+      → work′ ≡ replicate (length between) 0 → length between ≡ length work
+      → SignsMessage sk msg salt mseed tries sig work r sig′ work′
+  signs-worked {r} {sig′} {work′} between s f t unsolved spent made z h = go (satisfied sk) refl (signOf r3 sk msg salt mseed tries) refl
+    where
+      numbered : {n : ℕ} → r ≡ n → SignsMessage sk msg salt mseed tries sig work n sig′ work′ → SignsMessage sk msg salt mseed tries sig work r sig′ work′
+      numbered e m = subst (λ (n : ℕ). SignsMessage sk msg salt mseed tries sig work n sig′ work′) (sym e) m
+
+      go : (b : Bool) → satisfied sk ≡ b → (o : Option (List ℕ)) → signOf r3 sk msg salt mseed tries ≡ o → SignsMessage sk msg salt mseed tries sig work r sig′ work′
+      go false e o q =
+          numbered (unsolved e .0) (signs-failed between (sign-unsatisfied sk msg salt mseed tries (length sig) (length work) s f t e) (unsolved e .1) z h)
+      go true e none q =
+          numbered (spent e q .0) (signs-failed between (sign-spent sk msg salt mseed tries (length sig) (length work) s f t e q) (spent e q .1) z h)
+      go true e (some b) q =
+          numbered (made e b q .0)
+          (signs-made between (sign-done sk msg salt mseed tries (length sig) (length work) s f t b e q ∙ ap done (sym (made e b q .1))) z h)
 
 module _ (pk msg sig work : List ℕ) where
   pub checks-refused : {n : ℕ} → checkAll pk msg sig (length work) ≡ refused n → ChecksSignature pk msg sig work n work
