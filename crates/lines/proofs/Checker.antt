@@ -6,7 +6,7 @@ use Prim.Native.Nat.{ℕ, _*_, _<_}
 use native.Mathlib.Omega.{arith}
 use lib.Dec.{eqb}
 use lib.ListN.{length, getD}
-use Rattle.octets.specs.Lists.{vec, tab, part, flat, zero16}
+use Rattle.octets.specs.Lists.{vec, tab, part, zero16}
 use Rattle.octets.proofs.Part.{length-part}
 use Rattle.octets.proofs.Tab.{tab-ext}
 use Rattle.field.specs.Vec.{skip, lifted}
@@ -17,13 +17,12 @@ use Rattle.tree.specs.Tree.{rebuildOf}
 use Rattle.paper.specs.Commit.{deriveIn, leafCom, tape, xPart, uPart, lseedIn, lscomIn, tapeIn, correctionIn, xEval, uEval}
 use Rattle.paper.proofs.Alpha.{xEval-folded, uEval-folded}
 use Rattle.seeds.specs.Expanded.{treeKeys}
-use Rattle.ggm.specs.Ggm.{deriveBy}
 use Rattle.ggm.proofs.Held.{rebuilt-held}
 use Rattle.folding.specs.Rows.{Folds, xAt, uAt}
 use Rattle.folding.proofs.Folds.{folds-ext}
 use Rattle.folding.proofs.Values.{folds-x-at, folds-u-at}
 use Rattle.lines.specs.declared.Values.{Values}
-use Rattle.lines.specs.Standing.{comBy, tapeBy, leafAt, rawBy, Stands}
+use Rattle.lines.specs.Standing.{comBy, tapeBy, leafAt, rebuilt, comsWith, rawBy, Stands}
 use Rattle.lines.specs.Answers.{Evaluated, ValuesOf}
 use Rattle.lines.proofs.Leaf.{com-held, tape-by-held}
 use Rattle.lines.proofs.Signer.{hash-standing}
@@ -31,7 +30,7 @@ use Rattle.lines.proofs.Signer.{hash-standing}
 module _ (salt paths outs sents : List ℕ) (e i : ℕ) (keys : List ℕ) (held : keys ≡ treeKeys salt e) (path out d : List ℕ) (hp : length path ≡ 128)
     (hd : length d ≡ 12) (path-from : path ≡ part (128 * e) 128 paths) (out-from : out ≡ part (32 * e) 32 outs) (sent-from : d ≡ part (12 * e) 12 sents) where
   abbrev leaves : List ℕ
-  leaves = flat (rebuildOf (deriveBy keys) 8 0 i path)
+  leaves = rebuilt keys i path
 
   leaf-is : (k : ℕ) → k < 256 → leafAt leaves k ≡ lseedIn salt paths e i k
   unfolding leafAt lseedIn
@@ -50,7 +49,7 @@ module _ (salt paths outs sents : List ℕ) (e i : ℕ) (keys : List ℕ) (held 
   tape-is hl k h =
       tape-by-held salt e keys held (leafAt leaves k) (length-part (16 * k) 16 leaves (omega arith)) ∙ ap (tape 28 salt e) (leaf-is k h)
 
-  module _ (room f h : List ℕ) (S : Stands leaves (λ k. cond (eqb k i) out (comBy keys (leafAt leaves k))) room)
+  module _ (room f h : List ℕ) (S : Stands leaves (comsWith keys leaves i out) room)
       (hash-is : h ≡ shake128 (part 4096 8193 room) 32) (lf : length f ≡ 504) (F : Folds f (rawBy keys (part 0 4096 room) i) 256) where
     length-leaves : length leaves ≡ 4096
     length-leaves = ap length (sym (S .seeds)) ∙ length-part 0 4096 room (omega (arith, S .long))

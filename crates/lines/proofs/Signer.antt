@@ -1,5 +1,5 @@
 -- The signer's tree is algorithm 10's: its leaves, commitments and tapes, and so its hash, its lines and its opening. Assumes nothing.
-use mathlib.Core.Path.{_≡_, refl, sym, ap, _∙_}
+use mathlib.Core.Path.{_≡_, refl, sym, ap, ap₂, _∙_}
 use mathlib.Core.List.{List, []}
 use Prim.Native.Nat.{ℕ, _*_, _<_}
 use native.Mathlib.Omega.{arith}
@@ -19,7 +19,7 @@ use Rattle.folding.specs.Rows.{Folds}
 use Rattle.folding.proofs.Folds.{folds-ext}
 use Rattle.folding.proofs.Values.{folds-x0, folds-u0, folds-u1, folds-sent}
 use Rattle.lines.specs.declared.Lines.{Lines}
-use Rattle.lines.specs.Standing.{comBy, tapeBy, leafAt, rawBy, Stands}
+use Rattle.lines.specs.Standing.{comBy, tapeBy, leafAt, grown, comsBy, rawBy, Stands}
 use Rattle.lines.specs.Answers.{Committed, Revealed, LinesOf}
 use Rattle.lines.proofs.Leaf.{com-held, tape-by-held}
 
@@ -33,7 +33,7 @@ hash-standing leaves coms lscoms room S same =
 module _ (mseed salt x : List ℕ) (e : ℕ) (keys : List ℕ) (held : keys ≡ treeKeys salt e) (root : List ℕ) (hr : length root ≡ 16) (hx : length x ≡ 28)
     (from : root ≡ rseed mseed e) where
   abbrev leaves : List ℕ
-  leaves = flat (treeOf (deriveBy keys) 7 root (part 0 16 x))
+  leaves = grown keys root x
 
   offset : length (part 0 16 x) ≡ 16
   offset = length-part 0 16 x (omega arith)
@@ -54,7 +54,7 @@ module _ (mseed salt x : List ℕ) (e : ℕ) (keys : List ℕ) (held : keys ≡ 
       tape-by-held salt e keys held (leafAt leaves k) (length-part (16 * k) 16 leaves (omega arith)) ∙ ap (tape 28 salt e) (leaf-is k h)
 
   -- algorithm 10
-  module _ (room f h : List ℕ) (S : Stands leaves (λ k. comBy keys (leafAt leaves k)) room) (hash-is : h ≡ shake128 (part 4096 8193 room) 32)
+  module _ (room f h : List ℕ) (S : Stands leaves (comsBy keys leaves) room) (hash-is : h ≡ shake128 (part 4096 8193 room) 32)
       (lf : length f ≡ 504) (F : Folds f (rawBy keys (part 0 4096 room) 256) 256) where
     length-leaves : length leaves ≡ 4096
     length-leaves = ap length (sym (S .seeds)) ∙ length-part 0 4096 room (omega (arith, S .long))
@@ -75,18 +75,18 @@ module _ (mseed salt x : List ℕ) (e : ℕ) (keys : List ℕ) (held : keys ≡ 
           correction-is = L .correction-is ∙ folds-sent f (tapeAt 28 mseed salt x e) folded x lf hx;
         }
 
-  -- algorithm 11
-  pub revealed : (i : ℕ) (path seed out : List ℕ) → path ≡ flat (treePathOf (deriveBy keys) 7 i root (part 0 16 x))
-      → seed ≡ getD (treeOf (deriveBy keys) 7 root (part 0 16 x)) i [] → out ≡ comBy keys seed → Revealed mseed salt x e i path out
+  -- algorithm 11; δ is the offset
+  pub revealed : (i : ℕ) (δ path seed out : List ℕ) → δ ≡ part 0 16 x → path ≡ flat (treePathOf (deriveBy keys) 7 i root δ)
+      → seed ≡ getD (treeOf (deriveBy keys) 7 root δ) i [] → out ≡ comBy keys seed → Revealed mseed salt x e i path out
   unfolding pathAt lscom lseed
-  revealed i path seed out p s o =
+  revealed i δ path seed out d p s o =
       record {
         path-is =
-            p ∙ ap flat (tree-path-held salt e keys held i root (part 0 16 x))
-            ∙ ap (λ (r : List ℕ). flat (treePathOf (deriveIn salt e) 7 i r (part 0 16 x))) from;
+            p ∙ ap flat (tree-path-held salt e keys held i root δ)
+            ∙ ap₂ (λ (r δ : List ℕ). flat (treePathOf (deriveIn salt e) 7 i r δ)) from d;
         out-is =
             o ∙ com-held salt e keys held seed
             ∙ ap (leafCom salt e)
-            (s ∙ ap (λ (t : List (List ℕ)). getD t i []) (tree-held salt e keys held root (part 0 16 x))
-            ∙ ap (λ (r : List ℕ). getD (treeOf (deriveIn salt e) 7 r (part 0 16 x)) i []) from);
+            (s ∙ ap (λ (t : List (List ℕ)). getD t i []) (tree-held salt e keys held root δ)
+            ∙ ap₂ (λ (r δ : List ℕ). getD (treeOf (deriveIn salt e) 7 r δ) i []) from d);
       }

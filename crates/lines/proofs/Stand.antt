@@ -9,13 +9,15 @@ use lib.Dec.{eqb, ltb}
 use borrow.Author.Tests.{eqb-true, eqb-false, ltb-true, ltb-false}
 use lib.ListN.{length, set, length-set}
 use lib.Seq.{getD-set-same, getD-set-other}
-use Rattle.octets.specs.Lists.{vec, part, joined}
+use Rattle.octets.specs.Lists.{vec, part, joined, flat}
 use Rattle.octets.specs.Place.{place}
 use Rattle.octets.proofs.Part.{length-part, part-here, part-skip, part-joined}
 use Rattle.octets.proofs.Place.{length-place}
 use Rattle.octets.proofs.Frame.{part-ext, part-place, part-before, part-after, part-add, part-turn, part-none, part-part, vec-place-before}
+use Rattle.tree.specs.Tree.{treeOf}
 use Rattle.paper.specs.Symmetric.{selector, forLeaves}
-use Rattle.lines.specs.Standing.{comBy, leafAt, Stands}
+use Rattle.ggm.specs.Ggm.{deriveBy}
+use Rattle.lines.specs.Standing.{comBy, leafAt, grown, comsBy, comsWith, Stands}
 use Rattle.lines.proofs.Octets.{parts-joined, part-one}
 use Rattle.lines.proofs.Leaf.{length-comBy}
 
@@ -32,7 +34,7 @@ leaf-front room k h l =
 
 module _ (keys room₀ : List ℕ) where
   abbrev pub comsIn : ℕ → List ℕ
-  comsIn k = comBy keys (leafAt (part 0 4096 room₀) k)
+  comsIn = comsBy keys (part 0 4096 room₀)
 
   pub record Standing (i : ℕ) (room : List ℕ) : Type 0 where
     pub long : length room ≡ 12289
@@ -89,22 +91,28 @@ standing-start keys room v h e =
 pub stands-start : (keys room room′ : List ℕ) (v : ℕ) → length room ≡ 12289 → Stands (part 0 4096 (set room 4096 v)) (comsIn keys (set room 4096 v)) room′
     → Stands (part 0 4096 room) (comsIn keys room) room′
 stands-start keys room room′ v h S =
-    subst (λ (l : List ℕ). Stands l (λ k. comBy keys (leafAt l k)) room′)
+    subst (λ (l : List ℕ). Stands l (comsBy keys l) room′)
     (part-ext 0 0 4096 (set room 4096 v) room (omega (arith, length-set room 4096 v)) (omega arith)
     (λ i hi. getD-set-other room 4096 (0 + i) v 0 (λ q. omega arith)))
     S
 
 -- the leaves were written before: y is what the front of the room became
 pub stands-front : (keys y z leaves room : List ℕ) → length y ≡ 4096 → y ≡ leaves → Stands (part 0 4096 (y ++ z)) (comsIn keys (y ++ z)) room
-    → Stands leaves (λ k. comBy keys (leafAt leaves k)) room
-stands-front keys y z leaves room h e S = subst (λ (l : List ℕ). Stands l (λ k. comBy keys (leafAt l k)) room) (part-here 4096 y z h ∙ e) S
+    → Stands leaves (comsBy keys leaves) room
+stands-front keys y z leaves room h e S = subst (λ (l : List ℕ). Stands l (comsBy keys l) room) (part-here 4096 y z h ∙ e) S
+
+-- the signer's, with the offset δ
+pub stands-grown : (keys root x δ y z room : List ℕ) → length y ≡ 4096 → δ ≡ part 0 16 x → y ≡ flat (treeOf (deriveBy keys) 7 root δ)
+    → Stands (part 0 4096 (y ++ z)) (comsIn keys (y ++ z)) room → Stands (grown keys root x) (comsBy keys (grown keys root x)) room
+stands-grown keys root x δ y z room h d e S =
+    stands-front keys y z (grown keys root x) room h (e ∙ ap (λ (d : List ℕ). flat (treeOf (deriveBy keys) 7 root d)) d) S
 
 -- ---- the hidden leaf's commitment
 
 module _ (keys leaves : List ℕ) (i : ℕ) (out room room′ : List ℕ) (hk : length keys ≡ 2112) (hi : i < 256) (ho : length out ≡ 32)
-    (S : Stands leaves (λ k. comBy keys (leafAt leaves k)) room) (put : room′ ≡ place (4097 + 32 * i) out room) where
+    (S : Stands leaves (comsBy keys leaves) room) (put : room′ ≡ place (4097 + 32 * i) out room) where
   abbrev coms : ℕ → List ℕ
-  coms k = comBy keys (leafAt leaves k)
+  coms = comsBy keys leaves
 
   sizes : (k : ℕ) → k < 256 → length (coms k) ≡ 32
   sizes k h = length-comBy keys _ hk (length-leafAt leaves k (ap length (sym (S .seeds)) ∙ length-part 0 4096 room (omega (arith, S .long))) h)
@@ -146,9 +154,9 @@ module _ (keys leaves : List ℕ) (i : ℕ) (out room room′ : List ℕ) (hk : 
           ∙ part-place (4097 + 32 * i) 32 out room ho (omega (arith, S .long))
       go false q = beside (ltb k i) refl (eqb-false k i q)
 
-  pub stands-hidden : Stands leaves (λ k. cond (eqb k i) out (comBy keys (leafAt leaves k))) room′
+  pub stands-hidden : Stands leaves (comsWith keys leaves i out) room′
   stands-hidden =
-      subst (Stands leaves (λ k. cond (eqb k i) out (coms k))) (sym put)
+      subst (Stands leaves (comsWith keys leaves i out)) (sym put)
       (record {
         long = length-place (4097 + 32 * i) out room ∙ S .long;
         seeds = part-before 0 4096 (4097 + 32 * i) out room (omega arith) (omega (arith, S .long)) ∙ S .seeds;

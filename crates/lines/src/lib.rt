@@ -2,21 +2,17 @@
 // caller lends, of which nothing is said afterwards but its length.
 use aes::Cols;
 ghost use mathlib.Core.Path.{_≡_};
-ghost use mathlib.Core.Bool.{cond};
 ghost use mathlib.Core.List.{List};
 ghost use Prim.Native.Nat.{ℕ, _+_, _*_, _<_};
-ghost use lib.Dec.{eqb};
 ghost use lib.ListN.{length};
-ghost use Rattle.octets.specs.Lists.{vec, part, flat};
+ghost use Rattle.octets.specs.Lists.{vec, part};
 ghost use Rattle.octets.specs.Place.{place};
 ghost use Rattle.algebra.specs.Folding.{point as pointOf};
 ghost use Rattle.aes.specs.Words.{blockOf, Table};
 ghost use Rattle.shake.specs.Shake.{shake128};
-ghost use Rattle.tree.specs.Tree.{treeOf, rebuildOf};
 ghost use Rattle.paper.specs.Commit.{rseed};
-ghost use Rattle.ggm.specs.Ggm.{deriveBy};
 ghost use Rattle.folding.specs.Rows.{Folds};
-ghost use Rattle.lines.specs.Standing.{comBy, tapeBy, leafAt, rawBy, Stands};
+ghost use Rattle.lines.specs.Standing.{comBy, tapeBy, leafAt, grown, rebuilt, comsBy, comsWith, rawBy, Stands};
 ghost use Rattle.lines.specs.Answers.{Committed, Revealed, Evaluated, LinesOf, ValuesOf};
 
 // What BLC.Commit makes of a repetition: hash_ls_com, the lines' coefficients, and the part of the correction that is sent.
@@ -90,7 +86,7 @@ fn commit_leaf(t: &[u32; 1024], keys: &[u8], room: &mut [u8], i: usize)
 fn commit_leaves(t: &[u32; 1024], keys: &[u8], room: &mut [u8])
     requires { ⌜ Table (now t) ⌝ }
     requires { ⌜ (length (now keys) ≡ 2112) × (length (now room) ≡ 12289) ⌝ }
-    ensures { λ _. ⌜ Stands (part 0 4096 (now (room .entry))) (λ k. comBy (now (keys .entry)) (leafAt (part 0 4096 (now (room .entry))) k)) (now (room .exit)) ⌝ }
+    ensures { λ _. ⌜ Stands (part 0 4096 (now (room .entry))) (comsBy (now (keys .entry)) (part 0 4096 (now (room .entry)))) (now (room .exit)) ⌝ }
 {
     room[4096] = seeds::selector(seeds::LEAVES);
     let mut i: usize = 0;
@@ -104,7 +100,7 @@ fn commit_leaves(t: &[u32; 1024], keys: &[u8], room: &mut [u8])
 fn grow(t: &[u32; 1024], keys: &[u8], r: Cols, x: &[u8], room: &mut [u8])
     requires { ⌜ Table (now t) ⌝ }
     requires { ⌜ (length (now keys) ≡ 2112) × (length (now x) ≡ 28) × (length (now room) ≡ 12289) ⌝ }
-    ensures { λ _. ⌜ Stands (flat (treeOf (deriveBy (now (keys .entry))) 7 (blockOf r) (part 0 16 (now (x .entry))))) (λ k. comBy (now (keys .entry)) (leafAt (flat (treeOf (deriveBy (now (keys .entry))) 7 (blockOf r) (part 0 16 (now (x .entry))))) k)) (now (room .exit)) ⌝ }
+    ensures { λ _. ⌜ Stands (grown (now (keys .entry)) (blockOf r) (now (x .entry))) (comsBy (now (keys .entry)) (grown (now (keys .entry)) (blockOf r) (now (x .entry)))) (now (room .exit)) ⌝ }
 {
     let d = aes::load(x, 0);
     ggm::expand_tree(t, keys, &mut room[..4096], r, d);
@@ -124,7 +120,7 @@ fn put_hidden(room: &mut [u8], hidden: usize, out: &[u8])
 fn rebuild(t: &[u32; 1024], keys: &[u8], hidden: usize, path: &[u8], out: &[u8], room: &mut [u8])
     requires { ⌜ Table (now t) ⌝ }
     requires { ⌜ (length (now keys) ≡ 2112) × (hidden < 256) × (length (now path) ≡ 128) × (length (now out) ≡ 32) × (length (now room) ≡ 12289) ⌝ }
-    ensures { λ _. ⌜ Stands (flat (rebuildOf (deriveBy (now (keys .entry))) 8 0 hidden (now (path .entry)))) (λ k. cond (eqb k hidden) (now (out .entry)) (comBy (now (keys .entry)) (leafAt (flat (rebuildOf (deriveBy (now (keys .entry))) 8 0 hidden (now (path .entry)))) k))) (now (room .exit)) ⌝ }
+    ensures { λ _. ⌜ Stands (rebuilt (now (keys .entry)) hidden (now (path .entry))) (comsWith (now (keys .entry)) (rebuilt (now (keys .entry)) hidden (now (path .entry))) hidden (now (out .entry))) (now (room .exit)) ⌝ }
 {
     ggm::rebuild_tree(t, keys, &mut room[..4096], hidden, path);
     commit_leaves(t, keys, room);

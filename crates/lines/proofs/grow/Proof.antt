@@ -1,14 +1,9 @@
 -- `lines::grow` meets its contract. Assumes nothing.
-use mathlib.Core.Path.{ap, _∙_}
-use mathlib.Core.List.{List}
-use Prim.Native.Nat.{ℕ}
+use mathlib.Core.Path.{_∙_}
 use native.Mathlib.Omega.{arith}
 use lib.ListN.{length-take}
-use Rattle.octets.specs.Lists.{flat}
 use Rattle.aes.specs.Words.{blockOf}
-use Rattle.tree.specs.Tree.{treeOf}
-use Rattle.ggm.specs.Ggm.{deriveBy}
-use Rattle.lines.proofs.Stand.{stands-front}
+use Rattle.lines.proofs.Stand.{stands-grown}
 use borrow.Author.Needs.{needs}
 use Rattle.lines.proofs.grow.Statement.{statement}
 use Rattle.lines.proofs.grow.Tie as tie
@@ -38,9 +33,8 @@ returns c =
     let s = c .before .before .before .before .before .before .before .before .before .before .before .before in
     let a = s .args in
     let e = c .before .before .before .before .before .before .expand-tree in
-    stands-front (a .keys .now) _ _ _ _ (e .kept .1 .1 .0 ∙ simp length-take (omega arith))
-    (e .ensures ∙ ap (λ (d : List ℕ). flat (treeOf (deriveBy (a .keys .now)) 7 (blockOf (a .r)) d)) (c .before .before .before .before .before .before .before .before .load .ensures))
-    (c .before .before .commit-leaves .ensures)
+    stands-grown (a .keys .now) (blockOf (a .r)) (a .x .now) _ _ _ _ (e .kept .1 .1 .0 ∙ simp length-take (omega arith))
+    (c .before .before .before .before .before .before .before .before .load .ensures) (e .ensures) (c .before .before .commit-leaves .ensures)
 
 pub grow-spec : {M : Type 1} → statement M
 grow-spec =

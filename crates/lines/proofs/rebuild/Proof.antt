@@ -2,9 +2,7 @@
 use mathlib.Core.Path.{_∙_}
 use native.Mathlib.Omega.{arith}
 use lib.ListN.{length-take}
-use Rattle.octets.specs.Lists.{flat}
-use Rattle.tree.specs.Tree.{rebuildOf}
-use Rattle.ggm.specs.Ggm.{deriveBy}
+use Rattle.lines.specs.Standing.{rebuilt}
 use Rattle.lines.proofs.Stand.{stands-front, stands-hidden}
 use borrow.Author.Needs.{needs}
 use Rattle.lines.proofs.rebuild.Statement.{statement}
@@ -35,7 +33,7 @@ returns c =
     let s = c .before .before .before .before .before .before .before .before .before .before .before .before .before .before .before .before in
     let a = s .args in
     let e = c .before .before .before .before .before .before .before .before .before .before .rebuild-tree in
-    stands-hidden (a .keys .now) (flat (rebuildOf (deriveBy (a .keys .now)) 8 0 (a .hidden) (a .path .now))) (a .hidden) (a .out .now) _ _ (s .pre .1 .0) (s .pre .1 .1) (s .pre .1 .3)
+    stands-hidden (a .keys .now) (rebuilt (a .keys .now) (a .hidden) (a .path .now)) (a .hidden) (a .out .now) _ _ (s .pre .1 .0) (s .pre .1 .1) (s .pre .1 .3)
     (stands-front (a .keys .now) _ _ _ _ (e .kept .1 .1 .0 ∙ simp length-take (omega arith)) (e .ensures) (c .before .before .before .before .before .before .commit-leaves .ensures))
     (c .before .before .put-hidden .ensures)
 

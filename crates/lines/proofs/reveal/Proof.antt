@@ -1,13 +1,6 @@
 -- `lines::reveal` meets its contract. Assumes nothing.
-use mathlib.Core.Path.{ap, _∙_}
-use mathlib.Core.List.{List, []}
-use Prim.Native.Nat.{ℕ}
-use lib.ListN.{getD}
-use Rattle.octets.specs.Lists.{flat}
 use Rattle.aes.specs.Words.{blockOf}
 use Rattle.aes.proofs.Blocks.{length-blockOf}
-use Rattle.tree.specs.Tree.{treeOf, treePathOf}
-use Rattle.ggm.specs.Ggm.{deriveBy}
 use Rattle.lines.proofs.Signer.{revealed}
 use borrow.Author.Needs.{needs}
 use Rattle.lines.proofs.reveal.Statement.{statement}
@@ -39,12 +32,9 @@ returns c =
     let s = c .before .before .before .before .before .before .before .before .before .before .before in
     let k = c .before .before .before .before .before .before .before .before .tree-keys in
     let o = c .before .before .before .before .open-tree in
-    let δ = c .before .before .before .before .before .before .before .load .ensures in
     λ mseed from. revealed mseed (blockOf (s .args .salt)) (s .args .x .now) (s .args .e) (k .result) (k .ensures)
-    (blockOf (s .args .r)) (length-blockOf (s .args .r)) (s .pre .1 .1) from (s .args .hidden) _ (blockOf (o .result)) _
-    (o .ensures .0 ∙ ap (λ (d : List ℕ). flat (treePathOf (deriveBy (k .result)) 7 (s .args .hidden) (blockOf (s .args .r)) d)) δ)
-    (o .ensures .1 ∙ ap (λ (d : List ℕ). getD (treeOf (deriveBy (k .result)) 7 (blockOf (s .args .r)) d) (s .args .hidden) []) δ)
-    (c .commitment .ensures)
+    (blockOf (s .args .r)) (length-blockOf (s .args .r)) (s .pre .1 .1) from (s .args .hidden) _ _ (blockOf (o .result)) _
+    (c .before .before .before .before .before .before .before .load .ensures) (o .ensures .0) (o .ensures .1) (c .commitment .ensures)
 
 pub reveal-spec : {M : Type 1} → statement M
 reveal-spec =
