@@ -1,0 +1,4 @@
+pub mod Evaluating
+pub mod Recomputing
+pub mod Lent
+pub mod Verdict
