@@ -2,4 +2,7 @@
 test:
 	bash .ci/run
 
-.PHONY: test
+demo:
+	bash demo/run.sh
+
+.PHONY: test demo
