@@ -1,10 +1,9 @@
 // The checker's work in the workspace (document 001, algorithm 5): the values at the opened points, the result lines there, both commitments
 // compared.
 ghost use mathlib.Core.Path.{_≡_};
-ghost use mathlib.Core.List.{List};
 ghost use Prim.Native.Nat.{ℕ, _+_, _*_, _<_};
 ghost use lib.ListN.{length};
-ghost use Rattle.octets.specs.Lists.{vec, part, alike};
+ghost use Rattle.octets.specs.Lists.{part, alike};
 ghost use Rattle.octets.specs.Place.{place};
 ghost use Rattle.aes.specs.Words.{Table};
 ghost use Rattle.seeds.specs.Expanded.{plainKeys};
