@@ -1,5 +1,6 @@
 /* The kernels that the library exports beside plain C versions: the same bytes, time, stack, and single calls for a counter of instructions.
    bench check | time | stack | count */
+#include "clock.h"
 #include "kernels.h"
 #include "plain.h"
 #include "stack.h"
@@ -7,7 +8,6 @@
 #include <stdio.h>
 #include <stdlib.h>
 #include <string.h>
-#include <time.h>
 
 enum { BLOCKS = 1024, PERMUTATIONS = 64, VECTOR = 4096, RUNS = 1500 };
 
@@ -136,22 +136,13 @@ static void check_field(void)
 
 /* ---- time: the best of many runs, ours and plain by turns */
 
-static double once(void (*run)(void))
-{
-    struct timespec a, b;
-    clock_gettime(CLOCK_MONOTONIC, &a);
-    run();
-    clock_gettime(CLOCK_MONOTONIC, &b);
-    return (double)(b.tv_sec - a.tv_sec) * 1e9 + (double)(b.tv_nsec - a.tv_nsec);
-}
-
 static void time_all(void)
 {
     for (int k = 0; k < KERNELS; k++) {
         double ours = 1e18, plain = 1e18;
         prepare();
         for (int i = 0; i < RUNS; i++) {
-            double a = once(kernels[k].ours), b = once(kernels[k].plain);
+            double a = nanoseconds(kernels[k].ours), b = nanoseconds(kernels[k].plain);
             ours = a < ours ? a : ours;
             plain = b < plain ? b : plain;
         }
