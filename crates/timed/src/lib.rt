@@ -2,13 +2,20 @@
 ghost use mathlib.Core.Path.{_≡_};
 ghost use Rattle.octets.specs.Lists.{alike};
 ghost use Rattle.cells.specs.Cell.{CellRead, CellWritten};
-ghost use Rattle.mqom.specs.Calls.{MakesKeys};
+ghost use Rattle.mqom.specs.Calls.{MakesKeys, ChecksSignature};
 
 #[no_mangle]
 pub extern "C" fn timed_make_keys(seed: &[u8], pk: &mut [u8], sk: &mut [u8], work: &mut [u8]) -> u8
     ensures { λ r. ⌜ MakesKeys (now (seed .entry)) (now (pk .entry)) (now (sk .entry)) (now (work .entry)) r (now (pk .exit)) (now (sk .exit)) (now (work .exit)) ⌝ }
 {
     mqom::make_keys(seed, pk, sk, work)
+}
+
+#[no_mangle]
+pub extern "C" fn timed_check(pk: &[u8], msg: &[u8], sig: &[u8], work: &mut [u8]) -> u8
+    ensures { λ r. ⌜ ChecksSignature (now (pk .entry)) (now (msg .entry)) (now (sig .entry)) (now (work .entry)) r (now (work .exit)) ⌝ }
+{
+    mqom::check(pk, msg, sig, work)
 }
 
 #[no_mangle]
