@@ -13,7 +13,7 @@ use Rattle.octets.proofs.Place.{place-extend}
 use Rattle.octets.proofs.Frame.{part-add}
 use Rattle.aes.specs.declared.Cols.{Cols}
 use Rattle.aes.specs.Words.{blockOf}
-use Rattle.aes.proofs.Octets.{set-place}
+use Rattle.octets.proofs.Laid.{set-place}
 use Rattle.aes.proofs.Words.{four}
 
 pub length-blockOf : (k : Cols) → length (blockOf k) ≡ 16

@@ -16,7 +16,7 @@ use Rattle.aes.specs.declared.Cols.{Cols}
 use Rattle.aes.specs.Sbox.{sbox}
 use Rattle.aes.specs.Cipher.{subBytes, rotWord, xPower, rcon, temp, keyWord, expandKey}
 use Rattle.aes.specs.Words.{blockOf, NextKey}
-use Rattle.aes.proofs.Octets.{joined-four}
+use Rattle.octets.proofs.Laid.{joined-four}
 use Rattle.aes.proofs.Words.{four, rows}
 use Rattle.aes.proofs.Blocks.{length-blockOf}
 

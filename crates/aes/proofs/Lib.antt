@@ -1,4 +1,3 @@
-pub mod Octets
 pub mod Sbox
 pub mod Examples
 pub mod Words

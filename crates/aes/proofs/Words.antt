@@ -12,7 +12,7 @@ use Rattle.field.proofs.Linear.{below, below-at, additive-agree}
 use Rattle.field.proofs.Product.{root-⊕}
 use Rattle.field.proofs.Field.{⊗-⊕-l, ⊗-⊕-r, ⊗-one-l}
 use Rattle.aes.specs.Words.{spread}
-use Rattle.aes.proofs.Octets.{bytesOf-⊕}
+use Rattle.octets.proofs.Laid.{bytesOf-⊕}
 
 -- equal element by element
 pub four : {a b c d a′ b′ c′ d′ : ℕ} → a ≡ a′ → b ≡ b′ → c ≡ c′ → d ≡ d′ → a ∷ b ∷ c ∷ d ∷ [] ≡ a′ ∷ b′ ∷ c′ ∷ d′ ∷ []

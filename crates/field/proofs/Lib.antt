@@ -5,6 +5,5 @@ pub mod Steps
 pub mod Examples
 pub mod Inverse
 pub mod Sum
-pub mod Octets
 pub mod Morphism
 pub mod Loops

@@ -1,6 +1,5 @@
 pub mod Lowest
 pub mod Tape
 pub mod Horner
-pub mod Octets
 pub mod Folds
 pub mod Values

@@ -20,7 +20,7 @@ use Rattle.algebra.specs.Line.{line, constantOf, correctionOf, valueOf}
 use Rattle.algebra.specs.Folding.{point, accOf, foldOf, hide}
 use Rattle.algebra.proofs.Fold.{reads-byte, reads-half, folding-acc-hidden, folding-fold-hidden}
 use Rattle.folding.specs.Rows.{Folds, xFold, uFold, uAcc, sent, corrected, xAt, uAt}
-use Rattle.folding.proofs.Octets.{xorB-append}
+use Rattle.octets.proofs.Xor.{xorB-append}
 
 -- ---- an element of F in a list of bytes
 

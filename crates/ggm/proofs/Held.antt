@@ -6,7 +6,7 @@ use native.Mathlib.Omega.{arith}
 use lib.ListN.{length, getD}
 use Rattle.octets.specs.Lists.{flat, part}
 use Rattle.tree.specs.Tree.{rebuildOf, treeOf, treePathOf, Keeps16}
-use Rattle.tree.proofs.Octets.{part-flat}
+use Rattle.octets.proofs.Each.{part-flat}
 use Rattle.tree.proofs.Lengths.{all-tree, all-rebuild, length-tree, length-rebuild}
 use Rattle.tree.proofs.Ext.{Agree, rebuild-ext, tree-ext, tree-path-ext}
 use Rattle.paper.specs.Commit.{deriveIn}

@@ -1,4 +1,3 @@
-pub mod Octets
 pub mod Leaf
 pub mod Stand
 pub mod Signer

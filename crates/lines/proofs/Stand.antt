@@ -18,7 +18,7 @@ use Rattle.tree.specs.Tree.{treeOf}
 use Rattle.paper.specs.Symmetric.{selector, forLeaves}
 use Rattle.ggm.specs.Ggm.{deriveBy}
 use Rattle.lines.specs.Standing.{comBy, leafAt, grown, comsBy, comsWith, Stands}
-use Rattle.lines.proofs.Octets.{parts-joined, part-one}
+use Rattle.octets.proofs.Slices.{parts-joined, part-one}
 use Rattle.lines.proofs.Leaf.{length-comBy}
 
 pub length-leafAt : (leaves : List ℕ) (k : ℕ) → length leaves ≡ 4096 → k < 256 → length (leafAt leaves k) ≡ 16

@@ -8,6 +8,5 @@ pub mod Search
 pub mod Exactly
 pub mod Table
 pub mod Edges
-pub mod Octets
 pub mod Parts
 pub mod Made

@@ -14,7 +14,7 @@ use Rattle.octets.specs.Lists.{part, joined}
 use Rattle.octets.proofs.Part.{part-all}
 use Rattle.octets.proofs.Frame.{part-add, part-part}
 use Rattle.mqom.specs.Fields.{fieldOf, saltIn, com1In, com2In, linesIn, openingsIn, pathsIn, hiddensIn, correctionsIn, nonceIn, lineIn, pathIn, hiddenCommitmentIn, correctionIn}
-use Rattle.mqom.proofs.Octets.{part-past, part-over, length-part-le, joined-part}
+use Rattle.octets.proofs.Slices.{part-past, part-over, length-part-le, joined-part}
 
 -- ---- where they lie
 

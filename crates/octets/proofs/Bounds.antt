@@ -1,12 +1,11 @@
 -- What is made of bytes is made of bytes. Assumes nothing.
-use mathlib.Core.Path.{_≡_}
 use mathlib.Core.List.{List, [], _∷_, _++_}
-use Prim.Native.Nat.{ℕ, zero, suc, _+_, _*_, _/_, _%_, _<_}
+use Prim.Native.Nat.{ℕ, zero, suc, _/_, _<_}
 use native.Mathlib.Nat.{mod-lt}
 use native.Mathlib.Omega.{arith}
 use lib.Dec.{lit<}
-use lib.ListN.{length, getD, take, drop}
-use Rattle.octets.specs.Xor.{_⊕_, xorB}
+use lib.ListN.{length, take, drop, set, replicate}
+use Rattle.octets.specs.Xor.{xorB}
 use Rattle.octets.specs.Lists.{Bytes, vec, tab, part, joined, bytesOf, zero16}
 use Rattle.octets.proofs.Xor.{⊕-byte}
 
@@ -67,3 +66,14 @@ pub bytes-of : (a : List ℕ) → ((i : ℕ) → i < length a → vec a i < 256)
 unfolding Bytes
 bytes-of [] h = tt
 bytes-of (x ∷ a) h = (h 0 (omega arith), bytes-of a (λ i hi. h (suc i) (omega arith)))
+
+pub bytes-set : (l : List ℕ) (i v : ℕ) → Bytes l → v < 256 → Bytes (set l i v)
+unfolding Bytes
+bytes-set [] i v p h = tt
+bytes-set (x ∷ l) zero v p h = (h, p .1)
+bytes-set (x ∷ l) (suc i) v p h = (p .0, bytes-set l i v (p .1) h)
+
+pub bytes-replicate : (n v : ℕ) → v < 256 → Bytes (replicate n v)
+unfolding Bytes
+bytes-replicate zero v h = tt
+bytes-replicate (suc n) v h = (h, bytes-replicate n v h)

@@ -1,11 +1,11 @@
 -- What a part of a buffer holds after another part was written: `part` of `place`. Assumes nothing.
 use mathlib.Core.Path.{_≡_, refl, sym, ap, ap₂, _∙_}
 use mathlib.Core.List.{List, [], _∷_, _++_}
-use Prim.Native.Nat.{ℕ, zero, suc, _+_, _*_, _/_, _%_, _<_, _≤_}
+use Prim.Native.Nat.{ℕ, zero, suc, _+_, _*_, _<_, _≤_}
 use native.Mathlib.Omega.{arith}
 use native.Mathlib.Nat.{mul-suc, mul-zero}
 use native.Mathlib.Numerals.{add-one}
-use lib.ListN.{length, getD, take, drop}
+use lib.ListN.{length, take, drop}
 use lib.Seq.{ext-getD, take-add, drop-drop}
 use Rattle.octets.specs.Lists.{vec, part, joined}
 use Rattle.octets.specs.Place.{over, place}

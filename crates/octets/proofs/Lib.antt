@@ -6,3 +6,6 @@ pub mod Bounds
 pub mod Place
 pub mod Write
 pub mod Frame
+pub mod Laid
+pub mod Slices
+pub mod Each

@@ -1,15 +1,18 @@
 -- A loop that writes the list s into the buffer d from place a on, an element a turn: before turn i it holds `written d a s i`.
 -- Assumes nothing.
-use mathlib.Core.Path.{_≡_, refl, sym, ap, ap₂, subst, _∙_}
+use mathlib.Core.Path.{_≡_, sym, ap, ap₂, subst, _∙_}
 use mathlib.Core.List.{List, _++_, append-nil}
 use Prim.Native.Nat.{ℕ, _+_, _<_, _≤_}
-use native.Mathlib.Nat.{zero-add}
+use native.Mathlib.Nat.{zero-add, add-zero}
 use native.Mathlib.Numerals.{add-one}
 use native.Mathlib.Omega.{arith}
 use borrow.Author.Count.{below-more}
-use lib.ListN.{length, getD, set, drop, drop-of-length-le}
+use lib.ListN.{length, set, drop-of-length-le}
 use lib.Seq.{paste, paste-zero, paste-suc, length-paste, drop-paste, getD-drop, take-all, getD-set-same, getD-set-other}
 use Rattle.octets.specs.Lists.{vec}
+use lib.Bits.{bitXor}
+use Rattle.octets.specs.Xor.{_⊕_}
+use Rattle.octets.proofs.Xor.{xor-is-⊕}
 
 unfoldable pub written : List ℕ → ℕ → List ℕ → ℕ → List ℕ
 written d a s i = paste d a s i
@@ -56,3 +59,13 @@ set-more P t m v h all here =
     below-more (λ (j : ℕ). P j (vec (set t m v) j)) m
     (λ j l. subst (λ (x : ℕ). P j x) (sym (getD-set-other t m j v 0 (λ e. omega arith))) (all j l))
     (subst (λ (x : ℕ). P m x) (sym (getD-set-same t m v 0 h)) here)
+
+-- before turn i the buffer d holds the first i elements of s, and what is added at i makes the next one
+pub add-turn : (d s : List ℕ) (i x : ℕ) {e : List ℕ} → i < length d → i < length s → e ≡ written d 0 s i → vec s i ≡ vec d i ⊕ x
+    → set e i (bitXor (vec e i) x) ≡ written d 0 s (i + 1)
+add-turn d s i x {e} hd hs p q =
+    fill-turn d s i hd hs p (xor-is-⊕ (vec e i) x ∙ ap (λ (v : ℕ). v ⊕ x) (ap (λ (l : List ℕ). vec l i) p ∙ unwritten) ∙ sym q)
+  where
+    unwritten : vec (written d 0 s i) i ≡ vec d i
+    unwritten =
+        subst (λ (k : ℕ). vec (written d 0 s i) k ≡ vec d k) (add-zero i) (fill-read d s i 0 (omega arith) (omega arith))

@@ -1,11 +1,11 @@
 -- The laws of `_⊕_`, an abelian group in which each element is its own inverse, and of `xorB`. Those of numbers hold of all numbers.
 -- Assumes nothing.
 use mathlib.Core.Path.{_≡_, refl, sym, ap, ap₂, _∙_}
-use mathlib.Core.List.{List, [], _∷_}
-use Prim.Native.Nat.{ℕ, zero, suc, _+_, _*_, _/_, _%_, _^_, _<_, _≤_, suc-le-suc, zero-le}
-use native.Mathlib.Nat.{mod-lt, zero-lt-suc, div-add-mod', add-zero, zero-mul, one-mul, mul-one, le-of-suc-le-suc, not-suc-le-zero}
+use mathlib.Core.List.{List, [], _∷_, _++_}
+use Prim.Native.Nat.{ℕ, zero, suc, _+_, _*_, _/_, _%_, _^_, _<_}
+use native.Mathlib.Nat.{mod-lt, zero-lt-suc, add-zero, zero-mul, one-mul, le-of-suc-le-suc, not-suc-le-zero}
 use native.Mathlib.Omega.{arith}
-use lib.Arith.{bin-ind, digits-div, digits-mod, lt-one}
+use lib.Arith.{bin-ind, digits-mod}
 use lib.Pow.{pow-pos, split}
 use lib.Bits.{bitXor, differ, xor-step, xor-comm, xor-self, xor-zero-r, xor-lt, xor-shr, xor-mod, xor-block, xor-shifted}
 use lib.ListN.{length, replicate}
@@ -193,3 +193,10 @@ xorB-zeros-l (suc n) (y ∷ b) h = ap₂ _∷_ (⊕-zero-l y) (xorB-zeros-l n b 
 
 pub xorB-zeros-r : (n : ℕ) (b : List ℕ) → length b ≡ n → xorB b (replicate n 0) ≡ b
 xorB-zeros-r n b h = xorB-comm b (replicate n 0) ∙ xorB-zeros-l n b h
+
+pub xorB-append : (a b c d : List ℕ) → length a ≡ length c → xorB (a ++ b) (c ++ d) ≡ xorB a c ++ xorB b d
+unfolding xorB
+xorB-append [] b [] d h = refl
+xorB-append [] b (y ∷ c) d h = absurd (omega arith)
+xorB-append (x ∷ a) b [] d h = absurd (omega arith)
+xorB-append (x ∷ a) b (y ∷ c) d h = ap (λ (l : List ℕ). (x ⊕ y) ∷ l) (xorB-append a b c d (omega arith))

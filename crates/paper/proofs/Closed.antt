@@ -5,7 +5,7 @@ use Rattle.octets.proofs.Xor.{⊕-lt}
 use Rattle.octets.specs.Lists.{zero16, Bytes}
 use Rattle.algebra.specs.Line.{Batch, none, rows, batch}
 use Rattle.field.proofs.Sum.{sum-lt, dot-lt}
-use Rattle.tree.proofs.Octets.{bytes-flat, bytes-getD}
+use Rattle.octets.proofs.Each.{bytes-flat, bytes-getD}
 use Rattle.tree.proofs.Bounds.{bytes-tree, bytes-tree-path}
 use Rattle.tree.specs.Tree.{KeepsBytes}
 use Rattle.paper.specs.Symmetric.{derive, commitFirst, forKey, forAlphas, forCommitment}

@@ -9,7 +9,7 @@ use Rattle.octets.specs.Lists.{vec}
 use Rattle.octets.proofs.Xor.{⊕-assoc, ⊕-comm, vec-xorB}
 use Rattle.field.specs.Vec.{sum}
 use Rattle.tree.specs.Tree.{treeOf, Keeps16, xorAll}
-use Rattle.tree.proofs.Octets.{Each, All16}
+use Rattle.octets.proofs.Each.{Each, All16}
 use Rattle.tree.proofs.Xor.{length-xorAll}
 use Rattle.tree.proofs.Lengths.{all-tree, length-tree}
 use Rattle.tree.proofs.Laws.{xor-tree}

@@ -12,7 +12,7 @@ use Rattle.octets.proofs.Xor.{xorB-assoc, length-xorB}
 use Rattle.octets.proofs.Part.{part-here, part-skip}
 use Rattle.octets.proofs.Frame.{part-add}
 use Rattle.aes.specs.Cipher.{cipher, expandKey}
-use Rattle.aes.proofs.Octets.{bytesOf-⊕}
+use Rattle.octets.proofs.Laid.{bytesOf-⊕}
 use Rattle.aes.proofs.Bounds.{aes128-is, length-cipher}
 use Rattle.paper.specs.Symmetric.{selectors, selector, enc, tweakSalt, psi, seedDerive, seedCommit, prgBlock, prg, commitFirst, commitSecond}
 use Rattle.paper.specs.Commit.{deriveIn, leafCom, tape}

@@ -14,7 +14,7 @@ use Rattle.shake.specs.Keccak.{keccakF}
 use Rattle.shake.specs.Shake.{xorLane, xorByte, xorBytes, absorbBlocks, padding, zeros, absorbed}
 use Rattle.shake.specs.Held.{sponge, fed, PutSome}
 use Rattle.shake.specs.declared.Sponge.{Sponge}
-use Rattle.shake.proofs.Octets.{take-part}
+use Rattle.octets.proofs.Slices.{take-part}
 use Rattle.shake.proofs.Lanes.{xorLane-twice, xorBytes-append, xorBytes-zeros}
 
 -- ---- blocks

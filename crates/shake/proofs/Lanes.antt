@@ -13,7 +13,7 @@ use Rattle.octets.proofs.Xor.{⊕-assoc, ⊕-comm, ⊕-zero-r}
 use Rattle.octets.proofs.Part.{length-part}
 use Rattle.shake.specs.Shake.{xorLane, xorByte, xorBytes}
 use Rattle.shake.specs.Held.{number}
-use Rattle.shake.proofs.Octets.{⊕-shl, ⊕-disjoint, part-none, part-cons, part-append}
+use Rattle.octets.proofs.Slices.{⊕-shl, ⊕-disjoint, part-zero, part-cons, part-append}
 
 -- ---- a lane
 
@@ -39,7 +39,7 @@ xorBytes-append (b ∷ p) q a j =
 -- a part of one byte
 pub byte-part : (a l : List ℕ) (j i : ℕ) → i < length l → xorByte a j (vec l i) ≡ xorBytes a j (part i 1 l)
 unfolding xorBytes
-byte-part a l j i h = sym (ap (xorBytes a j) (part-cons i 0 l h ∙ ap (λ (t : List ℕ). vec l i ∷ t) (part-none (i + 1) l)))
+byte-part a l j i h = sym (ap (xorBytes a j) (part-cons i 0 l h ∙ ap (λ (t : List ℕ). vec l i ∷ t) (part-zero (i + 1) l)))
 
 pub xorBytes-zeros : (n : ℕ) (a : List ℕ) (j : ℕ) → xorBytes a j (replicate n 0) ≡ a
 unfolding xorBytes
@@ -90,7 +90,7 @@ xorBytes-number p a k bytes h =
 
 pub block-none : (a l : List ℕ) (i : ℕ) → a ≡ xorBytes a 0 (part i (8 * 0) l)
 unfolding xorBytes
-block-none a l i = sym (ap (xorBytes a 0) (part-none i l))
+block-none a l i = sym (ap (xorBytes a 0) (part-zero i l))
 
 pub block-more : (a l : List ℕ) (i k : ℕ) → i + 8 * k ≤ length l
     → xorBytes (xorBytes a 0 (part i (8 * k) l)) (8 * k) (part (i + 8 * k) 8 l) ≡ xorBytes a 0 (part i (8 * (k + 1)) l)

@@ -1,4 +1,3 @@
-pub mod Octets
 pub mod Number
 pub mod Lanes
 pub mod Blocks

@@ -7,7 +7,7 @@ use lib.ListN.{length}
 use Rattle.octets.specs.Lists.{vec, part}
 use Rattle.octets.proofs.Part.{length-part}
 use Rattle.shake.specs.Held.{number}
-use Rattle.shake.proofs.Octets.{part-cons, part-append, part-none}
+use Rattle.octets.proofs.Slices.{part-cons, part-append, part-zero}
 
 -- one byte, and those after it
 number-cons : (l : List ℕ) (o n : ℕ) → o < length l → number (part o (suc n) l) ≡ vec l o + 256 * number (part (o + 1) n l)
@@ -16,7 +16,7 @@ number-cons l o n h = ap number (part-cons o n l h)
 
 number-none : (l : List ℕ) (o : ℕ) → number (part o 0 l) ≡ 0
 unfolding number
-number-none l o = ap number (part-none o l)
+number-none l o = ap number (part-zero o l)
 
 module _ (l : List ℕ) (i : ℕ) where
   pub number-four : i + 4 ≤ length l

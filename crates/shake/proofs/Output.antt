@@ -11,7 +11,7 @@ use Rattle.octets.proofs.Tab.{length-tab, vec-tab, tab-ext, tab-append}
 use Rattle.octets.proofs.Bounds.{bytes-tab}
 use Rattle.shake.specs.Keccak.{keccakF}
 use Rattle.shake.specs.Shake.{byteOf, squeezeBlocks, output}
-use Rattle.shake.proofs.Octets.{take-tab}
+use Rattle.octets.proofs.Slices.{take-tab}
 
 -- the state after n permutations more
 unfoldable pub after : ℕ → List ℕ → List ℕ

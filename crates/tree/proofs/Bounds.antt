@@ -4,7 +4,7 @@ use Prim.Native.Nat.{ℕ, _*_}
 use Rattle.octets.specs.Lists.{Bytes}
 use Rattle.octets.proofs.Bounds.{bytes-xorB, bytes-zero16, bytes-part}
 use Rattle.tree.specs.Tree.{leavesOf, pathOf, rebuildOf, treeOf, treePathOf, KeepsBytes}
-use Rattle.tree.proofs.Octets.{Each}
+use Rattle.octets.proofs.Each.{Each}
 use Rattle.tree.proofs.Lengths.{each-leaves, each-tree, each-path, each-tree-path, each-rebuild}
 
 module _ (f : ℕ → List ℕ → List ℕ) (keeps : KeepsBytes f) where

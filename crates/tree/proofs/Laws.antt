@@ -16,7 +16,7 @@ use Rattle.octets.specs.Lists.{flat, part, zero16}
 use Rattle.octets.proofs.Xor.{length-xorB, xorB-undo}
 use Rattle.octets.proofs.Part.{flat-append, flat-one}
 use Rattle.tree.specs.Tree.{leavesOf, pathOf, rebuildOf, treeOf, treePathOf, leftOf, rightOf, Keeps16, xorAll}
-use Rattle.tree.proofs.Octets.{set-append-right}
+use Rattle.octets.proofs.Each.{set-append-right}
 use Rattle.tree.proofs.Xor.{xorAll-append, xorAll-one}
 use Rattle.tree.proofs.Lengths.{length-leaves, length-path}
 

@@ -12,7 +12,7 @@ use Rattle.octets.specs.Lists.{flat, part, zero16}
 use Rattle.octets.proofs.Xor.{length-xorB}
 use Rattle.octets.proofs.Part.{length-part}
 use Rattle.tree.specs.Tree.{leavesOf, pathOf, rebuildOf, treeOf, treePathOf, leftOf, rightOf, Keeps16}
-use Rattle.tree.proofs.Octets.{Each, All16, each-one, each-append, each-cond, length-flat}
+use Rattle.octets.proofs.Each.{Each, All16, each-one, each-append, each-cond, length-flat}
 
 length-cond : (t : Bool) (a b : List (List ℕ)) (n : ℕ) → length a ≡ n → length b ≡ n → length (cond t a b) ≡ n
 length-cond true a b n p q = p

@@ -1,4 +1,3 @@
-pub mod Octets
 pub mod Powers
 pub mod Sibling
 pub mod Arrays

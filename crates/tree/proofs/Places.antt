@@ -8,7 +8,7 @@ use lib.ListN.{length, getD, set, length-set}
 use lib.Seq.{getD-set-other, getD-set-same}
 use Rattle.octets.specs.Lists.{flat, part, zero16}
 use Rattle.tree.specs.Tree.{leavesOf, pathOf, rebuildOf, treeOf, treePathOf, Keeps16}
-use Rattle.tree.proofs.Octets.{each-set, each-at, part-flat}
+use Rattle.octets.proofs.Each.{each-set, each-at, part-flat}
 use Rattle.tree.proofs.Lengths.{all-tree, length-leaves, length-tree}
 use Rattle.tree.specs.Layers.{ggmNodes, ggmExpand, ggmOpen, ggmPartiallyExpand}
 use Rattle.tree.proofs.Layers.{expand-layers, open-layers}

@@ -6,7 +6,7 @@ use lib.ListN.{length}
 use Rattle.octets.specs.Xor.{xorB}
 use Rattle.octets.proofs.Xor.{length-xorB, xorB-assoc, xorB-zeros-l, xorB-zeros-r}
 use Rattle.tree.specs.Tree.{xorAll}
-use Rattle.tree.proofs.Octets.{Each, All16}
+use Rattle.octets.proofs.Each.{Each, All16}
 
 pub length-xorAll : (a : List (List ℕ)) → All16 a → length (xorAll a) ≡ 16
 unfolding Each xorAll

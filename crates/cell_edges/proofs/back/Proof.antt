@@ -5,7 +5,7 @@ use borrow.Author.Tests.{eq-eqb}
 use lib.ListN.{replicate, length-set}
 use Rattle.octets.proofs.Alike.{alike-of}
 use Rattle.cells.proofs.Cell.{write-gives-0, round-trip}
-use Rattle.cell_edges.proofs.Octets.{bytes-set, bytes-replicate}
+use Rattle.octets.proofs.Bounds.{bytes-set, bytes-replicate}
 use borrow.Author.Needs.{needs}
 use Rattle.cell_edges.proofs.back.Statement.{statement}
 use Rattle.cell_edges.proofs.back.Tie as tie

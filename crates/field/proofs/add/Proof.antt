@@ -6,7 +6,7 @@ use lib.ListN.{length, length-set}
 use Rattle.octets.specs.Xor.{xorB}
 use Rattle.octets.proofs.Xor.{length-xorB, vec-xorB}
 use Rattle.octets.proofs.Write.{written, written-none, fill-end}
-use Rattle.field.proofs.Octets.{add-turn}
+use Rattle.octets.proofs.Write.{add-turn}
 use Rattle.field.proofs.add.Statement.{statement}
 use Rattle.field.proofs.add.Tie as tie
 

@@ -9,7 +9,7 @@ use Rattle.octets.specs.Xor.{_⊕_}
 use Rattle.octets.proofs.Tab.{length-tab, vec-tab}
 use Rattle.octets.proofs.Write.{written, written-none, fill-end}
 use Rattle.field.specs.Gf.{_⊗_}
-use Rattle.field.proofs.Octets.{add-turn}
+use Rattle.octets.proofs.Write.{add-turn}
 use Rattle.field.proofs.add_scaled.Statement.{statement}
 use Rattle.field.proofs.add_scaled.Tie as tie
 

@@ -9,7 +9,7 @@ use Rattle.aes.proofs.Blocks.{length-blockOf}
 use Rattle.tree.proofs.Powers.{pow-half}
 use Rattle.tree.proofs.Depth.{path-zero, path-join-left, path-join-right}
 use Rattle.ggm.specs.Ggm.{deriveBy}
-use Rattle.ggm.proofs.Octets.{length-nil, drop-place}
+use Rattle.octets.proofs.Laid.{length-nil, drop-place}
 use Rattle.ggm.proofs.Hidden.{leaf-zero, leaf-join-left, leaf-join-right}
 use Prim.Native.Nat.{ℕ, _<_}
 use borrow.Fn.Kinds.{In}

@@ -7,7 +7,7 @@ use Rattle.aes.specs.Words.{blockOf}
 use Rattle.aes.proofs.Blocks.{length-blockOf}
 use Rattle.tree.proofs.Depth.{tree-path-left, tree-path-right}
 use Rattle.ggm.specs.Ggm.{deriveBy}
-use Rattle.ggm.proofs.Octets.{drop-place}
+use Rattle.octets.proofs.Laid.{drop-place}
 use Rattle.ggm.proofs.Hidden.{tree-leaf-left, tree-leaf-right}
 use borrow.Author.Needs.{needs}
 use Rattle.ggm.proofs.open_tree.Statement.{statement}

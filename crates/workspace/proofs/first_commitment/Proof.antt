@@ -7,8 +7,8 @@ use Rattle.octets.specs.Lists.{part}
 use Rattle.octets.specs.Place.{place}
 use Rattle.paper.specs.Symmetric.{selector, forCommitment}
 use Rattle.seeds.proofs.Hash.{hash-flat}
-use Rattle.aes.proofs.Octets.{set-place}
-use Rattle.workspace.proofs.Octets.{part-headed}
+use Rattle.octets.proofs.Laid.{set-place}
+use Rattle.octets.proofs.Laid.{part-headed}
 use borrow.Author.Needs.{needs}
 use Rattle.workspace.proofs.first_commitment.Statement.{statement}
 use Rattle.workspace.proofs.first_commitment.Tie as tie

@@ -1,5 +1,4 @@
--- Lists of seeds: what holds of each of them, and what follows for the seeds laid end to end. Nothing here is about trees.
--- Assumes nothing.
+-- Lists of seeds: what holds of each of them, and what follows for the seeds laid end to end. Assumes nothing.
 use mathlib.Core.Path.{_≡_, refl, ap, ap₂, _∙_}
 use mathlib.Core.List.{List, [], _∷_, _++_}
 use mathlib.Core.Bool.{Bool, true, false, cond}
