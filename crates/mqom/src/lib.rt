@@ -1,7 +1,7 @@
 // MQOM v2.1, set MQOM2-L1-gf16-fast-r3: what a user calls. Each call is lent its outputs and a workspace at exactly their length and gives
 // a number; the lowest that applies. With 1, 2 and 3 nothing is touched. Else the workspace is all zero afterwards, and outputs are written
 // with 0 alone. All randomness is an input: a key seed, a salt and a master seed must be drawn anew, at random, for each use.
-ghost use Rattle.mqom.specs.Calls.{MakesKeys, ChecksSignature};
+ghost use Rattle.mqom.specs.Calls.{MakesKeys, SignsMessage, ChecksSignature};
 
 pub mod fields;
 
@@ -25,6 +25,50 @@ pub fn make_keys(seed: &[u8], pk: &mut [u8], sk: &mut [u8], work: &mut [u8]) -> 
     keygen::make_keys(seed, pk, sk, work);
     octets::clear(work);
     0
+}
+
+// Signing. Of a secret key of 88 bytes, a message of 0 to 65,536, a salt and a master seed of 16 each, with 1 to 1,048,576 allowed tries: the
+// signature in sig, 3484 bytes; 65,536 bytes of workspace.
+// 0: done. 1: a length is another. 2: the message is longer. 3: the allowed tries are 0 or above 1,048,576. 4: the secret solution does not
+// satisfy the equations that the secret key carries. 5: none of the allowed tries passes; more of them, up to the limit, may.
+pub fn sign(
+    sk: &[u8],
+    msg: &[u8],
+    salt: &[u8],
+    mseed: &[u8],
+    tries: u32,
+    sig: &mut [u8],
+    work: &mut [u8],
+) -> u8
+    ensures { λ r. ⌜ SignsMessage (now (sk .entry)) (now (msg .entry)) (now (salt .entry)) (now (mseed .entry)) tries (now (sig .entry)) (now (work .entry)) r (now (sig .exit)) (now (work .exit)) ⌝ }
+{
+    if sk.len() != 88 {
+        return 1;
+    }
+    if salt.len() != 16 {
+        return 1;
+    }
+    if mseed.len() != 16 {
+        return 1;
+    }
+    if sig.len() != 3484 {
+        return 1;
+    }
+    if work.len() != 65536 {
+        return 1;
+    }
+    if msg.len() > 65536 {
+        return 2;
+    }
+    if tries == 0 {
+        return 3;
+    }
+    if tries > 1048576 {
+        return 3;
+    }
+    let r = signer::sign(sk, msg, salt, mseed, tries, sig, work);
+    octets::clear(work);
+    r
 }
 
 // Checking. Whether sig, 3484 bytes, is a signature of a message of 0 to 65,536 under a public key of 60; 65,536 bytes of workspace.

@@ -1,0 +1,9 @@
+pub mod Lent
+pub mod Within
+pub mod Roots
+pub mod Committing
+pub mod Equation
+pub mod Columns
+pub mod ResultLines
+pub mod Openings
+pub mod Signing
