@@ -2,13 +2,28 @@
 ghost use mathlib.Core.Path.{_≡_};
 ghost use Rattle.octets.specs.Lists.{alike};
 ghost use Rattle.cells.specs.Cell.{CellRead, CellWritten};
-ghost use Rattle.mqom.specs.Calls.{MakesKeys, ChecksSignature};
+ghost use Rattle.mqom.specs.Calls.{MakesKeys, SignsMessage, ChecksSignature};
 
 #[no_mangle]
 pub extern "C" fn timed_make_keys(seed: &[u8], pk: &mut [u8], sk: &mut [u8], work: &mut [u8]) -> u8
     ensures { λ r. ⌜ MakesKeys (now (seed .entry)) (now (pk .entry)) (now (sk .entry)) (now (work .entry)) r (now (pk .exit)) (now (sk .exit)) (now (work .exit)) ⌝ }
 {
     mqom::make_keys(seed, pk, sk, work)
+}
+
+#[no_mangle]
+pub extern "C" fn timed_sign(
+    sk: &[u8],
+    msg: &[u8],
+    salt: &[u8],
+    mseed: &[u8],
+    tries: u32,
+    sig: &mut [u8],
+    work: &mut [u8],
+) -> u8
+    ensures { λ r. ⌜ SignsMessage (now (sk .entry)) (now (msg .entry)) (now (salt .entry)) (now (mseed .entry)) tries (now (sig .entry)) (now (work .entry)) r (now (sig .exit)) (now (work .exit)) ⌝ }
+{
+    mqom::sign(sk, msg, salt, mseed, tries, sig, work)
 }
 
 #[no_mangle]
