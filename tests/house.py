@@ -6,18 +6,11 @@ import re
 import subprocess
 import sys
 
+sys.dont_write_bytecode = True
+from tally import end, tell
+
 KIT = {"check", "libc", "io", "os", "bytes"}
 LIMIT = 400
-passed, failed = 0, 0
-
-
-def tell(good, text):
-    global passed, failed
-    if good:
-        passed += 1
-    else:
-        failed += 1
-        print("FAIL: " + text)
 
 
 page = open("docs/4-house.md", encoding="utf8").read()
@@ -54,5 +47,4 @@ for path in files:
         lines = sum(1 for _ in open(path, encoding="utf8"))
         tell(lines <= LIMIT or path in long_ones, f"{path} has {lines} lines")
 
-print(f"{passed} passed, {failed} failed")
-sys.exit(1 if failed else 0)
+end()

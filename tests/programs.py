@@ -10,8 +10,10 @@ import subprocess
 import sys
 import tempfile
 
+sys.dont_write_bytecode = True
+from tally import end, tell
+
 programs = os.path.abspath(sys.argv[1])
-passed, failed = 0, 0
 OLD = b"here before the call"
 INPUTS = {
     "make_key": ["seed"],
@@ -21,15 +23,6 @@ INPUTS = {
     "read_cell": ["cell"],
 }
 OUTPUTS = {"make_key": ["new.public", "new.secret"], "sign_file": ["new.signature"], "check_file": [], "show_cell": [], "read_cell": ["new.public"]}
-
-
-def tell(good, text):
-    global passed, failed
-    if good:
-        passed += 1
-    else:
-        failed += 1
-        print("FAIL: " + text)
 
 
 def write(path, content):
@@ -148,5 +141,4 @@ with tempfile.TemporaryDirectory() as room:
     refused("make_key", 9, "room for the public key alone", words_of("make_key"), largest=70)
     refused("make_key", 9, "one name for both keys", ["seed", "new.public", "new.public"])
 
-print(f"{passed} passed, {failed} failed")
-sys.exit(1 if failed else 0)
+end()

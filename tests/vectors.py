@@ -8,18 +8,11 @@ import subprocess
 import sys
 import tempfile
 
+sys.dont_write_bytecode = True
+from tally import end, tell
+
 FIELDS = [("salt", 0), ("com1", 16), ("com2", 48), ("alpha1", 80), ("paths", 556), ("hidden commitments", 2732), ("corrections", 3276), ("nonce", 3480), ("end", 3484)]
 programs = os.path.abspath(sys.argv[1])
-passed, failed = 0, 0
-
-
-def tell(good, text):
-    global passed, failed
-    if good:
-        passed += 1
-    else:
-        failed += 1
-        print("FAIL: " + text)
 
 
 def cases(path):
@@ -76,5 +69,4 @@ for case in cases(os.path.join(os.path.dirname(os.path.abspath(__file__)), "vect
         for length in (3483, 3485):
             put(room, "bad", (sig + b"\0")[:length])
             tell(run(room, "check_file", "pk", "msg", "bad") == "1", f"{label}: a signature of {length} bytes")
-print(f"{passed} passed, {failed} failed")
-sys.exit(1 if failed else 0)
+end()
