@@ -7,7 +7,7 @@ import subprocess
 import sys
 
 sys.dont_write_bytecode = True
-from tally import end, tell
+from tally import finish, tell
 
 KIT = {"check", "libc", "io", "os", "bytes"}
 LIMIT = 400
@@ -47,4 +47,4 @@ for path in files:
         lines = sum(1 for _ in open(path, encoding="utf8"))
         tell(lines <= LIMIT or path in long_ones, f"{path} has {lines} lines")
 
-end()
+finish()

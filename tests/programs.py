@@ -11,7 +11,7 @@ import sys
 import tempfile
 
 sys.dont_write_bytecode = True
-from tally import end, tell
+from tally import finish, tell
 
 programs = os.path.abspath(sys.argv[1])
 OLD = b"here before the call"
@@ -141,4 +141,4 @@ with tempfile.TemporaryDirectory() as room:
     refused("make_key", 9, "room for the public key alone", words_of("make_key"), largest=70)
     refused("make_key", 9, "one name for both keys", ["seed", "new.public", "new.public"])
 
-end()
+finish()

@@ -10,6 +10,6 @@ def tell(good, text):
         print("FAIL: " + text)
 
 
-def end():
+def finish():
     print(f"{counts[True]} passed, {counts[False]} failed")
     sys.exit(1 if counts[False] else 0)

@@ -9,7 +9,7 @@ import sys
 import tempfile
 
 sys.dont_write_bytecode = True
-from tally import end, tell
+from tally import finish, tell
 
 FIELDS = [("salt", 0), ("com1", 16), ("com2", 48), ("alpha1", 80), ("paths", 556), ("hidden commitments", 2732), ("corrections", 3276), ("nonce", 3480), ("end", 3484)]
 programs = os.path.abspath(sys.argv[1])
@@ -69,4 +69,4 @@ for case in cases(os.path.join(os.path.dirname(os.path.abspath(__file__)), "vect
         for length in (3483, 3485):
             put(room, "bad", (sig + b"\0")[:length])
             tell(run(room, "check_file", "pk", "msg", "bad") == "1", f"{label}: a signature of {length} bytes")
-end()
+finish()
