@@ -54,6 +54,7 @@ fn eval_one(t: &[u32; 1024], sig: &[u8], work: &mut [u8], hidden: u8, e: usize)
     let p = 556 + 128 * e;
     let h = 2732 + 32 * e;
     let c = 3276 + 12 * e;
+    let a = workspace::at_tree();
     let v = lines::eval(
         t,
         s,
@@ -62,11 +63,12 @@ fn eval_one(t: &[u32; 1024], sig: &[u8], work: &mut [u8], hidden: u8, e: usize)
         &sig[p..p + 128],
         &sig[h..h + 32],
         &sig[c..c + 12],
-        &mut work[29248..41537],
+        &mut work[a..a + 12289],
     );
     let r = lines::point(hidden);
     let x = v.x;
-    put_values(&mut work[18304..29248], e, x, r);
+    let m = workspace::at_vectors();
+    put_values(&mut work[m..m + 10944], e, x, r);
     let b = 80 + 28 * e;
     let g = v.hash;
     let u = v.u;
@@ -108,9 +110,11 @@ fn recompute_one(t: &[u32; 1024], pk: &[u8], work: &mut [u8], i: usize)
     ensures keys { λ _. ⌜ part 0 18304 (now (work .exit)) ≡ plainKeys ⌝ }
     ensures adds { λ _. ⌜ ((x : ℕ → ℕ → ℕ) (p : ℕ → ℕ) (rest v : ℕ → ℕ → ℕ) → Vectors x p v → Recomputed (now (pk .entry)) x p rest v i (now (work .entry)) → Recomputed (now (pk .entry)) x p rest v (i + 1) (now (work .exit))) ⌝ }
 {
-    let q = equations::expansion::expand(t, &work[0..18304], &pk[0..32], i);
-    let z = equations::at_points(&work[18304..29248], &q, pk[32 + i]);
-    equations::add_column(&mut work[42401..42877], i, z);
+    let v = workspace::at_vectors();
+    let q = equations::expansion::expand(t, &work[..v], &pk[0..32], i);
+    let z = equations::at_points(&work[v..v + 10944], &q, pk[32 + i]);
+    let a = workspace::at_alpha0();
+    equations::add_column(&mut work[a..a + 476], i, z);
 }
 
 fn recompute_all(t: &[u32; 1024], pk: &[u8], work: &mut [u8])
@@ -132,8 +136,9 @@ fn recompute(t: &[u32; 1024], pk: &[u8], sig: &[u8], work: &mut [u8]) -> bool
     requires { ⌜ (length (now pk) ≡ 60) × (length (now sig) ≡ 3484) × (length (now work) ≡ 65536) ⌝ }
     ensures { λ r. ⌜ ((i : ℕ → ℕ) → EvaluatedIn (now (sig .entry)) i 17 (now (work .entry)) → r ≡ alike (com2Of (now (pk .entry)) (now (sig .entry)) i) (sigCom2 r3 (now (sig .entry)))) ⌝ }
 {
-    seeds::plain_keys(t, &mut work[0..18304]);
-    equations::spread(&mut work[18304..29248]);
+    let v = workspace::at_vectors();
+    seeds::plain_keys(t, &mut work[..v]);
+    equations::spread(&mut work[v..v + 10944]);
     recompute_all(t, pk, work);
     workspace::put(&sig[80..556], work, workspace::ALPHA1);
     let b = workspace::second_commitment(work);

@@ -2,9 +2,10 @@
 ghost use mathlib.Core.Path.{_≡_};
 ghost use mathlib.Core.Bool.{false};
 ghost use Prim.Native.Nat.{_+_, _*_, _≤_, _<_};
+ghost use lib.Dec.{eqb};
 ghost use lib.ListN.{length};
 ghost use Rattle.io.specs.Counts.{Counts};
-ghost use Rattle.files.specs.Files.{Loading, Storing, lowFirst};
+ghost use Rattle.files.specs.Files.{Loading, Storing, LineLong, IsLine, lowFirst};
 use libc::STDERR_FILENO;
 use libc::STDOUT_FILENO;
 
@@ -15,9 +16,10 @@ const FOR_ALL: u32 = 0o644;
 
 const FOR_THE_OWNER: u32 = 0o600;
 
-// Whether the program was started with n words after its own name.
-pub fn given(n: usize) -> bool {
-    let all = os::arg_count();
+// Whether all words, the program's own name among them, are that name and n more.
+pub fn given(all: usize, n: usize) -> bool
+    ensures { λ r. ⌜ r ≡ eqb all (n + 1) ⌝ }
+{
     if all == 0 {
         return false;
     }
@@ -225,9 +227,26 @@ pub fn store_keys(public: usize, pk: &[u8], secret: usize, sk: &[u8]) -> u8
     settle(public, &p[..pn])
 }
 
-pub fn print_number(n: u8) {
-    io::print_decimal(STDOUT_FILENO, n as u64);
-    io::write_all(STDOUT_FILENO, b"\n");
+// Puts n as a line at the start of out, and answers how many characters it has.
+fn line(n: u8, out: &mut [u8; 20]) -> usize
+    ensures { λ r. ⌜ Counts r (now (out .exit)) ⌝ }
+    ensures { λ r. ⌜ IsLine n r (now (out .exit)) ⌝ }
+{
+    let k = io::decimal(n as u64, out);
+    // of a slice the proof knows the length
+    let text: &mut [u8] = out;
+    text[k] = 10;
+    k + 1
+}
+
+// Prints n as a line, and answers how many characters it has.
+pub fn print_number(n: u8) -> usize
+    ensures { λ r. ⌜ LineLong n r ⌝ }
+{
+    let mut text = [0u8; 20];
+    let r = line(n, &mut text);
+    io::write_all(STDOUT_FILENO, &text[..r]);
+    r
 }
 
 fn wide(x: u8) -> u32

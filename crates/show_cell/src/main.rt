@@ -3,7 +3,7 @@
 use libc::STDOUT_FILENO;
 
 fn main() {
-    if !files::given(1) {
+    if !files::given(os::arg_count(), 1) {
         files::print_number(1);
         return;
     }

@@ -23,7 +23,7 @@ use Rattle.equations.specs.Lanes.{Masks, OnLines}
 use Rattle.equations.specs.Put.{Put}
 use Rattle.workspace.specs.Map.{atVectors, atAlpha0, atAlpha1}
 use Rattle.signer.specs.State.{Within, Vectors, Resulted, Adds, AddsAll}
-use Rattle.signer.proofs.Lent.{back, back-place, length-back}
+use Rattle.workspace.proofs.Lent.{Lent}
 use Rattle.signer.proofs.Within.{within-place, within-more, within-before}
 use Rattle.signer.proofs.Equation.{z0-ext, z1-ext, form-ext}
 
@@ -124,45 +124,34 @@ module _ (i : ℕ) (w a b : List ℕ) (hi : i < 28) (hw : length w ≡ 65536) (l
       left1 = λ e j he l hj. kept1 e j he hj (λ q. omega arith) ∙ r .left1 e j he (omega arith) hj;
     }
 
--- ---- the same, from what the code leaves: a and b came back from the parts that were lent
+-- ---- the same, from what the code leaves: α_0, p, came back as a, and α_1, q, as b
 
-pub column-lent : (w a : List ℕ) → length w ≡ 65536 → length a ≡ length (part atAlpha0 476 w) → length (part atAlpha1 476 (back atAlpha0 476 a w)) ≡ 476
-column-lent w a hw la = length-part atAlpha1 476 (back atAlpha0 476 a w) (omega (arith, length-back atAlpha0 476 a w la (omega arith)))
+module _ (i : ℕ) (w p a y q b z : List ℕ) (hi : i < 28) (hw : length w ≡ 65536) (l : Lent atAlpha0 476 w p a y) (k : Lent atAlpha1 476 y q b z) where
+  both : w2 w a b ≡ z
+  both = sym (k .after ∙ ap (place atAlpha1 b) (l .after))
 
-module _ (i : ℕ) (w a b : List ℕ) (hi : i < 28) (hw : length w ≡ 65536) (la : length a ≡ length (part atAlpha0 476 w))
-    (lb : length b ≡ length (part atAlpha1 476 (back atAlpha0 476 a w))) where
-  abbrev pub w3 : List ℕ
-  w3 = back atAlpha1 476 b (back atAlpha0 476 a w)
+  pub one-within : Within 42401 952 w z
+  one-within = subst (Within 42401 952 w) both (resulted-within i w a b hi hw (l .size) (k .size))
 
-  len-a : length a ≡ 476
-  len-a = la ∙ length-part atAlpha0 476 w (omega arith)
+  column : (f c : List ℕ) {s t : List ℕ} → s ≡ t → Put s 17 (λ e. 28 * e + i) (λ e. vec s (28 * e + i) ⊕ vec f e) c
+      → Put t 17 (λ e. 28 * e + i) (λ e. vec t (28 * e + i) ⊕ vec f e) c
+  column f c e put = subst (λ (s : List ℕ). Put s 17 (λ e. 28 * e + i) (λ e. vec s (28 * e + i) ⊕ vec f e) c) e put
 
-  len-b : length b ≡ 476
-  len-b = lb ∙ column-lent w a hw la
-
-  first-back : back atAlpha0 476 a w ≡ w1 w a
-  first-back = back-place atAlpha0 476 a w la (omega arith)
-
-  both-back : w2 w a b ≡ w3
-  both-back =
-      sym
-      (back-place atAlpha1 476 b (back atAlpha0 476 a w) lb (omega (arith, length-back atAlpha0 476 a w la (omega arith)))
-      ∙ ap (place atAlpha1 b) first-back)
-
-  pub one-within : Within 42401 952 w w3
-  one-within = subst (Within 42401 952 w) both-back (resulted-within i w a b hi hw len-a len-b)
-
-  pub one-adds : (pk q f g : List ℕ) → q ≡ rows (mseedEqOf pk) i → ((v : ℕ → ℕ → ℕ) → Masks (part atVectors 10944 w) v → OnLines q v f g)
-      → Put (part atAlpha0 476 w) 17 (λ e. 28 * e + i) (λ e. vec (part atAlpha0 476 w) (28 * e + i) ⊕ vec f e) a
-      → Put (part atAlpha1 476 (back atAlpha0 476 a w)) 17 (λ e. 28 * e + i) (λ e. vec (part atAlpha1 476 (back atAlpha0 476 a w)) (28 * e + i) ⊕ vec g e) b
-      → Adds pk i w (bitXor (vec f 17) (vec pk (32 + i))) w3
-  one-adds pk q f g eq on put0 put1 = record {
-    columns = λ x x0 u0 u1 v lanes masks r.
-        subst (Resulted (mseedEqOf pk) x x0 u0 u1 (i + 1)) both-back
-        (resulted-turn i w a b hi hw len-a len-b (mseedEqOf pk) x q f g x0 u0 u1 v eq lanes (on v masks) put0
-        (subst (λ (s : List ℕ). Put (part atAlpha1 476 s) 17 (λ e. 28 * e + i) (λ e. vec (part atAlpha1 476 s) (28 * e + i) ⊕ vec g e) b) first-back put1) r);
-    differs = λ x x0 v lanes masks. differs (mseedEqOf pk) x q f g i x0 v eq lanes (on v masks) pk hi;
+  -- the equation r, worked on the vectors s
+  pub one-adds : (pk r s f g : List ℕ) → r ≡ rows (mseedEqOf pk) i → s ≡ part atVectors 10944 w → ((v : ℕ → ℕ → ℕ) → Masks s v → OnLines r v f g)
+      → Put p 17 (λ e. 28 * e + i) (λ e. vec p (28 * e + i) ⊕ vec f e) a
+      → Put q 17 (λ e. 28 * e + i) (λ e. vec q (28 * e + i) ⊕ vec g e) b
+      → Adds pk i w (bitXor (vec f 17) (vec pk (32 + i))) z
+  one-adds pk r s f g er es on put0 put1 = record {
+    columns = λ x x0 u0 u1 v lanes masks c.
+        subst (Resulted (mseedEqOf pk) x x0 u0 u1 (i + 1)) both
+        (resulted-turn i w a b hi hw (l .size) (k .size) (mseedEqOf pk) x r f g x0 u0 u1 v er lanes (there v masks)
+        (column f a (l .was) put0) (column g b (k .was ∙ ap (part atAlpha1 476) (l .after)) put1) c);
+    differs = λ x x0 v lanes masks. differs (mseedEqOf pk) x r f g i x0 v er lanes (there v masks) pk hi;
   }
+    where
+      there : (v : ℕ → ℕ → ℕ) → Masks (part atVectors 10944 w) v → OnLines r v f g
+      there v masks = on v (subst (λ (t : List ℕ). Masks t v) (sym es) masks)
 
 -- ---- one equation after the other
 

@@ -16,7 +16,7 @@ use Rattle.seeds.specs.Expanded.{plainKeys}
 use Rattle.equations.specs.Put.{Put}
 use Rattle.workspace.specs.Map.{atVectors, atTree, atHashes, atSent, atAlpha0, atAlpha1, atRoots}
 use Rattle.signer.specs.State.{Within, Committed}
-use Rattle.signer.proofs.Lent.{back, back-place, length-back}
+use Rattle.workspace.proofs.Lent.{Lent, length-after}
 use Rattle.signer.proofs.Within.{within-place, within-more, within-before, within-behind}
 use Rattle.signer.proofs.Roots.{root-at}
 
@@ -175,40 +175,21 @@ committed-none m salt x w roots = record {
   lanes = λ e k he hk. absurd (omega arith);
 }
 
--- ---- the same, from what the code leaves: t and v came back from the parts that were lent
+-- ---- the same, from what the code leaves: the tree's room p came back as t, and the vectors q as v
 
-pub vectors-lent : (w t : List ℕ) → length w ≡ 65536 → length t ≡ length (part atTree 12289 w) → length (part atVectors 10944 (back atTree 12289 t w)) ≡ 10944
-vectors-lent w t hw lt = length-part atVectors 10944 (back atTree 12289 t w) (omega (arith, length-back atTree 12289 t w lt (omega arith)))
-
-module _ (w t v : List ℕ) (hw : length w ≡ 65536) (lt : length t ≡ length (part atTree 12289 w))
-    (lv : length v ≡ length (part atVectors 10944 (back atTree 12289 t w))) where
-  len-t : length t ≡ 12289
-  len-t = lt ∙ length-part atTree 12289 w (omega arith)
-
-  len-v : length v ≡ 10944
-  len-v = lv ∙ vectors-lent w t hw lt
-
-  tree-back : back atTree 12289 t w ≡ place atTree t w
-  tree-back = back-place atTree 12289 t w lt (omega arith)
-
-  both-back : back atVectors 10944 v (back atTree 12289 t w) ≡ afterTree w t v
-  both-back =
-      back-place atVectors 10944 v (back atTree 12289 t w) lv (omega (arith, length-back atTree 12289 t w lt (omega arith)))
-      ∙ ap (place atVectors v) tree-back
-
-  pub length-both : length (back atVectors 10944 v (back atTree 12289 t w)) ≡ 65536
-  length-both = ap length both-back ∙ length-place atVectors v (place atTree t w) ∙ length-place atTree t w ∙ hw
+module _ (w p t y q v z : List ℕ) (hw : length w ≡ 65536) (f : Lent atTree 12289 w p t y) (g : Lent atVectors 10944 y q v z) where
+  pub length-both : length z ≡ 65536
+  length-both = length-after g ∙ length-after f ∙ hw
 
   module _ (e : ℕ) (h u0 u1 d : List ℕ) {w' : List ℕ} (he : e < 17)
-      (lh : length h ≡ 32) (l0 : length u0 ≡ 28) (l1 : length u1 ≡ 28) (ld : length d ≡ 12)
-      (kept : w' ≡ afterLines (back atVectors 10944 v (back atTree 12289 t w)) e h u0 u1 d) where
+      (lh : length h ≡ 32) (l0 : length u0 ≡ 28) (l1 : length u1 ≡ 28) (ld : length d ≡ 12) (kept : w' ≡ afterLines z e h u0 u1 d) where
     after : afterLines (afterTree w t v) e h u0 u1 d ≡ w'
-    after = sym (kept ∙ ap (λ (z : List ℕ). afterLines z e h u0 u1 d) both-back)
+    after = sym (kept ∙ ap (λ (s : List ℕ). afterLines s e h u0 u1 d) (g .after ∙ ap (place atVectors v) (f .after)))
 
     pub one-within : Within 18304 25049 w w'
-    one-within = subst (Within 18304 25049 w) after (committed-within e w t v h u0 u1 d hw he len-t len-v lh l0 l1 ld)
+    one-within = subst (Within 18304 25049 w) after (committed-within e w t v h u0 u1 d hw he (f .size) (g .size) lh l0 l1 ld)
 
-    pub one-committed : (m salt x x0 : List ℕ) → Put (part atVectors 10944 (back atTree 12289 t w)) 56 (λ k. 192 * k + e) (vec x0) v
+    pub one-committed : (m salt x x0 : List ℕ) → Put q 56 (λ k. 192 * k + e) (vec x0) v
         → x0 ≡ tab 56 (x0At 28 m salt x e)
         → h ≡ hashLsCom (lscom m salt x e)
         → d ≡ sentAt 28 m salt x e
@@ -218,16 +199,13 @@ module _ (w t v : List ℕ) (hw : length w ≡ 65536) (lt : length t ≡ length 
         → Committed m salt x (e + 1) w'
     one-committed m salt x x0 put ex eh ed e0 e1 c =
         subst (Committed m salt x (e + 1)) after
-        (committed-turn e w t v h u0 u1 d hw he len-t len-v lh l0 l1 ld m salt x x0
-        (subst (λ (s : List ℕ). Put (part atVectors 10944 s) 56 (λ k. 192 * k + e) (vec x0) v) tree-back put) ex c eh ed e0 e1)
+        (committed-turn e w t v h u0 u1 d hw he (f .size) (g .size) lh l0 l1 ld m salt x x0
+        (subst (λ (s : List ℕ). Put s 56 (λ k. 192 * k + e) (vec x0) v) (g .was ∙ ap (part atVectors 10944) (f .after)) put) ex c eh ed e0 e1)
 
 -- ---- the keys k came back, and then the root seeds were written
 
-pub keys-back : (w k : List ℕ) → length w ≡ 65536 → length k ≡ length (part 0 18304 w) → k ≡ plainKeys → part 0 18304 (back 0 18304 k w) ≡ plainKeys
-keys-back w k hw lk e =
-    ap (part 0 18304) (back-place 0 18304 k w lk (omega arith))
-    ∙ part-place 0 18304 k w (lk ∙ length-part 0 18304 w (omega arith)) (omega arith)
-    ∙ e
+pub keys-back : {w p k y : List ℕ} → length w ≡ 65536 → Lent 0 18304 w p k y → k ≡ plainKeys → part 0 18304 y ≡ plainKeys
+keys-back {w} {k = k} hw l e = ap (part 0 18304) (l .after) ∙ part-place 0 18304 k w (l .size) (omega arith) ∙ e
 
 pub keys-end : (w1 r w2 w3 : List ℕ) → length w1 ≡ 65536 → part 0 18304 w1 ≡ plainKeys → w2 ≡ place atRoots r w1 → Within 18304 25049 w2 w3
     → part 0 18304 w3 ≡ plainKeys

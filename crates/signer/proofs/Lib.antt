@@ -1,4 +1,3 @@
-pub mod Lent
 pub mod Within
 pub mod Roots
 pub mod Committing

@@ -17,7 +17,7 @@ use Rattle.paper.specs.Challenge.{hiddenIn}
 use Rattle.paper.specs.Scheme.{signCom1, signCom2, signAlpha1, signChallenge, signWith}
 use Rattle.paper.proofs.Commit.{length-pathAt, length-lscom, length-sent}
 use Rattle.signer.specs.Written.{Openable, openingAt, openings}
-use Rattle.signer.proofs.Lent.{back, back-place}
+use Rattle.workspace.proofs.Lent.{back, back-place}
 
 -- a part right behind what stands at the front
 next : (r x s : List ℕ) (b : ℕ) → b ≡ length r → place 0 r (place b x s) ≡ place 0 (r ++ x) s
@@ -127,4 +127,4 @@ unfolding openingAt
 opening-written m salt x i e w s path out s2 s3 k n he hs ek en g ep eo lp e2 e3 =
     e3
     ∙ ap₂ (place (3276 + 12 * e)) (ap (λ (j : ℕ). part (42145 + 12 * e) j w) en ∙ g .sents e he)
-    (e2 ∙ ap₂ (place (2732 + 32 * e)) eo (back-place (556 + 128 * e) k path s lp (omega arith) ∙ ap (λ (l : List ℕ). place (556 + 128 * e) l s) ep))
+    (e2 ∙ ap₂ (place (2732 + 32 * e)) eo (back-place (556 + 128 * e) k (556 + 128 * e) 128 refl ek path s (omega arith) lp ∙ ap (λ (l : List ℕ). place (556 + 128 * e) l s) ep))

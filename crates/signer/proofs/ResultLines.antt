@@ -22,7 +22,7 @@ use Rattle.equations.specs.Lanes.{lane, Masks}
 use Rattle.equations.specs.Put.{Own}
 use Rattle.workspace.specs.Map.{atVectors, atHashes, atSent, atAlpha0, atAlpha1, atRoots}
 use Rattle.signer.specs.State.{Within, Committed, Vectors, Resulted, AddsAll, Prepared}
-use Rattle.signer.proofs.Lent.{back, back-place, length-back}
+use Rattle.workspace.proofs.Lent.{Lent, length-after}
 use Rattle.signer.proofs.Within.{within-place, within-more, within-before, within-behind}
 
 -- element k of 17 times 28 bytes, by rows
@@ -128,49 +128,32 @@ prepared sk salt m w v y u ok hw lv ly c t r h = record {
         within-behind 42401 952 (s2 w v y) u t a n p (omega (arith, ls))
         ∙ behind w v y hw lv ly a n (omega arith) q
 
--- ---- the same, from what the code leaves: v and then y came back from the vectors, which were lent
+-- ---- the same, from what the code leaves: of the vectors p came back as v, and q as y
 
-pub spread-lent : (w v : List ℕ) → length w ≡ 65536 → length v ≡ length (part atVectors 10944 w) → length (part atVectors 10944 (back atVectors 10944 v w)) ≡ 10944
-spread-lent w v hw lv = length-part atVectors 10944 (back atVectors 10944 v w) (omega (arith, length-back atVectors 10944 v w lv (omega arith)))
+module _ (w p v w1 q y w2 : List ℕ) (hw : length w ≡ 65536) (g : Lent atVectors 10944 w p v w1) (h : Lent atVectors 10944 w1 q y w2) where
+  both : w2 ≡ s2 w v y
+  both = h .after ∙ ap (place atVectors y) (g .after)
 
-module _ (w v y : List ℕ) (hw : length w ≡ 65536) (lv : length v ≡ length (part atVectors 10944 w))
-    (ly : length y ≡ length (part atVectors 10944 (back atVectors 10944 v w))) where
-  len-v : length v ≡ 10944
-  len-v = lv ∙ length-part atVectors 10944 w (omega arith)
+  pub length-both : length w2 ≡ 65536
+  length-both = length-after h ∙ length-after g ∙ hw
 
-  len-y : length y ≡ 10944
-  len-y = ly ∙ spread-lent w v hw lv
+  pub keys-stay : part 0 18304 w2 ≡ part 0 18304 w
+  keys-stay = ap (part 0 18304) both ∙ keys-kept w v y hw (g .size) (h .size)
 
-  own-back : back atVectors 10944 v w ≡ place atVectors v w
-  own-back = back-place atVectors 10944 v w lv (omega arith)
+  spread : q ≡ v
+  spread = h .was ∙ ap (part atVectors 10944) (g .after) ∙ part-place atVectors 10944 v w (g .size) (omega arith)
 
-  masks-back : back atVectors 10944 y (back atVectors 10944 v w) ≡ s2 w v y
-  masks-back =
-      back-place atVectors 10944 y (back atVectors 10944 v w) ly (omega (arith, length-back atVectors 10944 v w lv (omega arith)))
-      ∙ ap (place atVectors y) own-back
-
-  pub length-masks : length (back atVectors 10944 y (back atVectors 10944 v w)) ≡ 65536
-  length-masks = ap length masks-back ∙ length-place atVectors y (place atVectors v w) ∙ length-place atVectors v w ∙ hw
-
-  pub keys-stay : part 0 18304 (back atVectors 10944 y (back atVectors 10944 v w)) ≡ part 0 18304 w
-  keys-stay = ap (part 0 18304) masks-back ∙ keys-kept w v y hw len-v len-y
-
-  written : part atVectors 10944 (back atVectors 10944 v w) ≡ v
-  written = ap (part atVectors 10944) own-back ∙ part-place atVectors 10944 v w len-v (omega arith)
-
-  pub all-prepared : (sk u : List ℕ) (ok : Bool) → Own (solutionOf sk) (part atVectors 10944 w) v
-      → Masks y (lane (part atVectors 10944 (back atVectors 10944 v w)))
-      → Within 42401 952 (back atVectors 10944 y (back atVectors 10944 v w)) u
-      → AddsAll (publicOf sk) (back atVectors 10944 y (back atVectors 10944 v w)) ok u
+  pub all-prepared : (sk u : List ℕ) (ok : Bool) → Own (solutionOf sk) p v → Masks y (lane q) → Within 42401 952 w2 u
+      → AddsAll (publicOf sk) w2 ok u
       → (salt m : List ℕ)
       → Committed m salt (solutionOf sk) 17 w
       → Prepared sk salt m ok u
   all-prepared sk u ok own masks within adds salt m c =
       let x = solutionOf sk in
-      let lanes = vectors-in m salt x w v y hw len-v len-y c own in
-      let held = masks-in w v y hw len-v len-y (subst (λ (l : List ℕ). Masks y (lane l)) written masks) in
-      let a = subst (λ (l : List ℕ). AddsAll (publicOf sk) l ok u) masks-back adds in
-      prepared sk salt m w v y u ok hw len-v len-y c
-      (subst (λ (l : List ℕ). Within 42401 952 l u) masks-back within)
-      (a .columns x (x0At 28 m salt x) (u0At 28 m salt x) (u1At 28 m salt x) (lane v) lanes held (resulted-none m salt x w v y hw len-v len-y c (mseedEqOf (publicOf sk))))
+      let lanes = vectors-in m salt x w v y hw (g .size) (h .size) c (subst (λ (l : List ℕ). Own x l v) (g .was) own) in
+      let held = masks-in w v y hw (g .size) (h .size) (subst (λ (l : List ℕ). Masks y (lane l)) spread masks) in
+      let a = subst (λ (l : List ℕ). AddsAll (publicOf sk) l ok u) both adds in
+      prepared sk salt m w v y u ok hw (g .size) (h .size) c
+      (subst (λ (l : List ℕ). Within 42401 952 l u) both within)
+      (a .columns x (x0At 28 m salt x) (u0At 28 m salt x) (u1At 28 m salt x) (lane v) lanes held (resulted-none m salt x w v y hw (g .size) (h .size) c (mseedEqOf (publicOf sk))))
       (a .agrees x (x0At 28 m salt x) (lane v) lanes held)

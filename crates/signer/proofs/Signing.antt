@@ -26,7 +26,7 @@ use Rattle.transcript.specs.Search.{searchOf}
 use Rattle.workspace.specs.Map.{atCom1, atHashes, atSent, atCom2, atAlpha0, atAlpha1, atRoots}
 use Rattle.signer.specs.State.{Prepared}
 use Rattle.signer.specs.Written.{Openable, openings, signatureOf, Answers, Signed}
-use Rattle.signer.proofs.Lent.{back, back-place}
+use Rattle.workspace.proofs.Lent.{back, back-place}
 use Rattle.signer.proofs.Openings.{signature-whole}
 
 -- ---- the signature from its parts: the head stands in s1, the nonce n came back, and the openings were written behind
@@ -54,7 +54,7 @@ signature-written m salt x c1 c2 a1 h b c n s s1 s3 nonce ls l1 l2 la ln l lm lx
     long = ap length e1 ∙ length-place 0 _ s ∙ l
 
     put : back 3480 4 n s1 ≡ place 3480 n s1
-    put = back-place 3480 4 n s1 ek (omega (arith, long))
+    put = back-place 3480 4 3480 4 refl refl n s1 (omega (arith, long)) ek
 
     placed : back 3480 4 n s1 ≡ place 3480 nonce (place 0 (salt ++ (c1 ++ (c2 ++ a1))) s)
     placed = put ∙ ap₂ (place 3480) en e1

@@ -64,9 +64,11 @@ fn commit_one(t: &[u32; 1024], x: &[u8], salt: Cols, work: &mut [u8], e: usize)
     ensures adds { λ _. ⌜ ((m : List ℕ) → Committed m (blockOf salt) (now (x .entry)) e (now (work .entry)) → Committed m (blockOf salt) (now (x .entry)) (e + 1) (now (work .exit))) ⌝ }
 {
     let r = aes::load(work, workspace::ROOTS + 16 * e);
-    let l = lines::commit(t, salt, e, r, x, &mut work[29248..41537]);
+    let a = workspace::at_tree();
+    let l = lines::commit(t, salt, e, r, x, &mut work[a..a + 12289]);
     let x0 = l.x0;
-    equations::put_lane(&mut work[18304..29248], e, x0);
+    let v = workspace::at_vectors();
+    equations::put_lane(&mut work[v..v + 10944], e, x0);
     keep_lines(work, e, l);
 }
 
@@ -104,11 +106,14 @@ fn result_one(t: &[u32; 1024], pk: &[u8], work: &mut [u8], i: usize) -> u8
     ensures adds { λ r. ⌜ Adds (now (pk .entry)) i (now (work .entry)) r (now (work .exit)) ⌝ }
 {
     let q = equations::expansion::expand(t, &work[0..18304], &pk[0..32], i);
-    let z = equations::on_lines(&work[18304..29248], &q);
+    let v = workspace::at_vectors();
+    let z = equations::on_lines(&work[v..v + 10944], &q);
     let z0 = z.z0;
     let z1 = z.z1;
-    equations::add_column(&mut work[42401..42877], i, z0);
-    equations::add_column(&mut work[42877..43353], i, z1);
+    let a = workspace::at_alpha0();
+    equations::add_column(&mut work[a..a + 476], i, z0);
+    let b = workspace::at_alpha1();
+    equations::add_column(&mut work[b..b + 476], i, z1);
     z0[17] ^ pk[32 + i]
 }
 
@@ -133,8 +138,9 @@ fn alphas(t: &[u32; 1024], sk: &[u8], work: &mut [u8]) -> bool
     requires { ⌜ (length (now sk) ≡ 88) × (length (now work) ≡ 65536) × (part 0 18304 (now work) ≡ plainKeys) ⌝ }
     ensures { λ r. ⌜ ((salt m : List ℕ) → Committed m salt (solutionOf (now (sk .entry))) 17 (now (work .entry)) → Prepared (now (sk .entry)) salt m r (now (work .exit))) ⌝ }
 {
-    equations::put_solution(&sk[60..88], &mut work[18304..29248]);
-    equations::spread(&mut work[18304..29248]);
+    let v = workspace::at_vectors();
+    equations::put_solution(&sk[60..88], &mut work[v..v + 10944]);
+    equations::spread(&mut work[v..v + 10944]);
     results(t, &sk[0..60], work)
 }
 
@@ -163,9 +169,9 @@ fn write_opening(
     requires { ⌜ (length (now x) ≡ 28) × (hidden < 256) × (length (now work) ≡ 65536) × (length (now sig) ≡ 3484) × (e < 17) ⌝ }
     ensures { λ _. ⌜ ((m : List ℕ) → Openable m (blockOf salt) (now (x .entry)) (now (work .entry)) → now (sig .exit) ≡ openingAt m (blockOf salt) (now (x .entry)) (λ k. hidden) e (now (sig .entry))) ⌝ }
 {
-    let r = aes::load(work, workspace::ROOTS + 16 * e);
+    let root = aes::load(work, workspace::ROOTS + 16 * e);
     let p = 556 + 128 * e;
-    let c = lines::reveal(t, salt, e, r, x, hidden, &mut sig[p..p + 128]);
+    let c = lines::reveal(t, salt, e, root, x, hidden, &mut sig[p..p + 128]);
     workspace::put(&c, sig, 2732 + 32 * e);
     let f = workspace::SENT + 12 * e;
     workspace::put(&work[f..f + 12], sig, 3276 + 12 * e);
@@ -191,7 +197,8 @@ fn write_head(salt: &[u8], com1: &[u8], com2: &[u8], work: &[u8], sig: &mut [u8]
     workspace::put(salt, sig, 0);
     workspace::put(com1, sig, 16);
     workspace::put(com2, sig, 48);
-    workspace::put(&work[42877..43353], sig, 80);
+    let a = workspace::at_alpha1();
+    workspace::put(&work[a..a + 476], sig, 80);
 }
 
 // The whole signature, with the nonce that was found.

@@ -6,7 +6,7 @@ ghost use lib.ListN.{length};
 ghost use Rattle.octets.specs.Lists.{part};
 ghost use Rattle.octets.specs.Place.{place};
 ghost use Rattle.paper.specs.Symmetric.{hash as hashOf, selector as selectorOf, forAlphas, forCommitment};
-ghost use Rattle.workspace.specs.Map.{atCom1, atHashes, atCom2, atAlpha0};
+ghost use Rattle.workspace.specs.Map.{atVectors, atTree, atCom1, atHashes, atCom2, atAlpha0, atAlpha1};
 
 pub const SIZE: usize = 65536;
 
@@ -33,6 +33,32 @@ pub const ALPHA1: usize = 42877;
 pub const COM2_END: usize = 43353;
 
 pub const ROOTS: usize = 43360;
+
+// Where the parts start that are lent. A proof knows these places by their contracts alone: of a slice at a numeral the check would count
+// the numeral out.
+pub fn at_vectors() -> usize
+    ensures { λ r. ⌜ r ≡ atVectors ⌝ }
+{
+    VECTORS
+}
+
+pub fn at_tree() -> usize
+    ensures { λ r. ⌜ r ≡ atTree ⌝ }
+{
+    TREE
+}
+
+pub fn at_alpha0() -> usize
+    ensures { λ r. ⌜ r ≡ atAlpha0 ⌝ }
+{
+    ALPHA0
+}
+
+pub fn at_alpha1() -> usize
+    ensures { λ r. ⌜ r ≡ atAlpha1 ⌝ }
+{
+    ALPHA1
+}
 
 // text is written into out from place at on.
 pub fn put(text: &[u8], out: &mut [u8], at: usize)

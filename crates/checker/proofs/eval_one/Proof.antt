@@ -3,10 +3,10 @@ use mathlib.Core.Path.{sym, ap, _∙_}
 use native.Mathlib.Omega.{arith}
 use lib.ListN.{length}
 use Rattle.octets.specs.Lists.{part}
-use Rattle.octets.proofs.Part.{length-part}
 use Rattle.paper.specs.Alpha.{r3}
 use Rattle.paper.specs.Scheme.{sigSalt, sigAlpha1, sigPaths, sigOuts, sigSent}
 use Rattle.octets.proofs.Place.{length-place}
+use Rattle.workspace.proofs.Lent.{span, length-slice}
 use Rattle.checker.proofs.Lent.{length-path, length-out, length-sent, length-alpha1, path-is, out-is, sent-is, alpha1-is, length-tree, vectors-lent, length-vectors, evaluated-code}
 use borrow.Author.Needs.{needs}
 use Rattle.checker.proofs.eval_one.Statement.{statement}
@@ -32,6 +32,9 @@ mul-c c = search needs
 
 add-c : tie.Need-add-c
 add-c c = search needs
+
+at-tree-requires : tie.Need-at-tree-requires
+at-tree-requires c κs = search needs
 
 add-eval : tie.Need-add-eval
 add-eval c = search needs
@@ -69,6 +72,9 @@ part-eval-start-3 c = search needs
 part-eval-end-3 : tie.Need-part-eval-end-3
 part-eval-end-3 c = search needs
 
+add-eval-4 : tie.Need-add-eval-4
+add-eval-4 c = search needs
+
 sub-eval-4 : tie.Need-sub-eval-4
 sub-eval-4 c = search needs
 
@@ -81,15 +87,22 @@ part-eval-end-4 c = search needs
 eval-requires : tie.Need-eval-requires
 unfolding part
 eval-requires c κs =
-    let s = c .before .before .before .before .before .before .before in
+    let s = c .before .before .before .before .before .before .before .before in
     let g = s .args .sig .now in
+    let a = c .before .before .before .before .at-tree in
     let h = s .pre .1 in (
       s .pre .0,
-      (h .2, length-path g (s .args .e) (h .0) (h .2), length-out g (s .args .e) (h .0) (h .2), length-sent g (s .args .e) (h .0) (h .2), length-part 29248 12289 (s .args .work .now) (omega (arith, h .1))),
+      (h .2, length-path g (s .args .e) (h .0) (h .2), length-out g (s .args .e) (h .0) (h .2), length-sent g (s .args .e) (h .0) (h .2), length-slice (a .result) 12289 (s .args .work .now) (omega (arith, h .1, a .ensures))),
     )
 
 point-requires : tie.Need-point-requires
 point-requires c κs = search needs
+
+at-vectors-requires : tie.Need-at-vectors-requires
+at-vectors-requires c κs = search needs
+
+add-put-values : tie.Need-add-put-values
+add-put-values c = search needs
 
 sub-put-values : tie.Need-sub-put-values
 sub-put-values c = search needs
@@ -100,25 +113,29 @@ part-put-values-start c = search needs
 part-put-values-end : tie.Need-part-put-values-end
 unfolding part
 part-put-values-end c =
-    let s = c .before .before .before .before .before .before .before .before .before .before .before .before in
-    let k = c .before .before .before .before .eval in
-    omega (arith, length-tree (s .args .work .now) (k .last .1 .1 .1 .1 .1 .1 .1 .0) (s .pre .1 .1) (k .kept .1 .1 .1 .1 .1 .1 .1 .0))
+    let s = c .before .before .before .before .before .before .before .before .before .before .before .before .before .before in
+    let a = c .before .before .before .before .before .before .before .before .before .before .at-tree in
+    let k = c .before .before .before .before .before .eval in
+    let b = c .at-vectors in
+    omega (arith, b .ensures, length-tree _ _ (a .ensures) (span (a .result) 12289) (s .args .work .now) (k .last .1 .1 .1 .1 .1 .1 .1 .0) (s .pre .1 .1) (k .kept .1 .1 .1 .1 .1 .1 .1 .0))
 
 put-values-requires : tie.Need-put-values-requires
 unfolding part
 put-values-requires c κs =
-    let s = c .before .before .before .before .before .before .before .before .before .before .before .before .before in
-    let k = c .before .before .before .before .before .eval in
-    (vectors-lent (s .args .work .now) (k .last .1 .1 .1 .1 .1 .1 .1 .0) (s .pre .1 .1) (k .kept .1 .1 .1 .1 .1 .1 .1 .0), s .pre .1 .2)
+    let s = c .before .before .before .before .before .before .before .before .before .before .before .before .before .before .before in
+    let a = c .before .before .before .before .before .before .before .before .before .before .before .at-tree in
+    let k = c .before .before .before .before .before .before .eval in
+    let b = c .before .at-vectors in
+    (vectors-lent _ _ (a .ensures) (span (a .result) 12289) (s .args .work .now) (k .last .1 .1 .1 .1 .1 .1 .1 .0) (s .pre .1 .1) (k .kept .1 .1 .1 .1 .1 .1 .1 .0) _ _ (b .ensures) (span (b .result) 10944), s .pre .1 .2)
 
 mul-b : tie.Need-mul-b
-mul-b c = omega (arith, c .before .before .before .before .before .before .before .before .before .before .before .before .before .before .before .before .pre)
+mul-b c = omega (arith, c .before .before .before .before .before .before .before .before .before .before .before .before .before .before .before .before .before .before .pre)
 
 add-b : tie.Need-add-b
-add-b c = omega (arith, c .before .before .before .before .before .before .before .before .before .before .before .before .before .before .before .before .pre)
+add-b c = omega (arith, c .before .before .before .before .before .before .before .before .before .before .before .before .before .before .before .before .before .before .pre)
 
 add-keep-values : tie.Need-add-keep-values
-add-keep-values c = omega (arith, c .before .before .before .before .before .before .before .before .before .before .before .before .before .before .before .before .before .before .before .pre)
+add-keep-values c = omega (arith, c .before .before .before .before .before .before .before .before .before .before .before .before .before .before .before .before .before .before .before .before .before .pre)
 
 sub-keep-values : tie.Need-sub-keep-values
 sub-keep-values c = search needs
@@ -127,41 +144,47 @@ part-keep-values-start : tie.Need-part-keep-values-start
 part-keep-values-start c = search needs
 
 part-keep-values-end : tie.Need-part-keep-values-end
-part-keep-values-end c = omega (arith, c .before .before .before .before .before .before .before .before .before .before .before .before .before .before .before .before .before .before .before .pre)
+part-keep-values-end c = omega (arith, c .before .before .before .before .before .before .before .before .before .before .before .before .before .before .before .before .before .before .before .before .before .pre)
 
 keep-values-requires : tie.Need-keep-values-requires
 unfolding part
 keep-values-requires c κs =
-    let s = c .before .before .before .before .before .before .before .before .before .before .before .before .before .before .before .before .before .before .before .before in
-    let k = c .before .before .before .before .before .before .before .before .before .before .before .before .eval in
+    let s = c .before .before .before .before .before .before .before .before .before .before .before .before .before .before .before .before .before .before .before .before .before .before in
+    let a = c .before .before .before .before .before .before .before .before .before .before .before .before .before .before .before .before .before .before .at-tree in
+    let k = c .before .before .before .before .before .before .before .before .before .before .before .before .before .eval in
+    let b = c .before .before .before .before .before .before .before .before .at-vectors in
     let p = c .before .before .before .before .before .before .put-values in
-    (length-vectors (s .args .work .now) (k .last .1 .1 .1 .1 .1 .1 .1 .0) (s .pre .1 .1) (k .kept .1 .1 .1 .1 .1 .1 .1 .0) (p .last .0) (p .kept .0), s .pre .1 .2, length-alpha1 (s .args .sig .now) (s .args .e) (s .pre .1 .0) (s .pre .1 .2))
+    (length-vectors _ _ (a .ensures) (span (a .result) 12289) (s .args .work .now) (k .last .1 .1 .1 .1 .1 .1 .1 .0) (s .pre .1 .1) (k .kept .1 .1 .1 .1 .1 .1 .1 .0) _ _ (b .ensures) (span (b .result) 10944) (p .last .0) (p .kept .0), s .pre .1 .2, length-alpha1 (s .args .sig .now) (s .args .e) (s .pre .1 .0) (s .pre .1 .2))
 
 same-length : tie.Need-same-length
 unfolding part
 same-length c =
-    let s = c .before .before .before .before .before .before .before .before .before .before .before .before .before .before .before .before .before .before .before .before .before .before .before in
-    let k = c .before .before .before .before .before .before .before .before .before .before .before .before .before .before .before .eval in
+    let s = c .before .before .before .before .before .before .before .before .before .before .before .before .before .before .before .before .before .before .before .before .before .before .before .before .before in
+    let a = c .before .before .before .before .before .before .before .before .before .before .before .before .before .before .before .before .before .before .before .before .before .at-tree in
+    let k = c .before .before .before .before .before .before .before .before .before .before .before .before .before .before .before .before .eval in
+    let b = c .before .before .before .before .before .before .before .before .before .before .before .at-vectors in
     let p = c .before .before .before .before .before .before .before .before .before .put-values in
     ap length (c .before .before .keep-values .ensures) ∙ length-place _ _ _ ∙ length-place _ _ _
-    ∙ length-vectors (s .args .work .now) (k .last .1 .1 .1 .1 .1 .1 .1 .0) (s .pre .1 .1) (k .kept .1 .1 .1 .1 .1 .1 .1 .0) (p .last .0) (p .kept .0)
+    ∙ length-vectors _ _ (a .ensures) (span (a .result) 12289) (s .args .work .now) (k .last .1 .1 .1 .1 .1 .1 .1 .0) (s .pre .1 .1) (k .kept .1 .1 .1 .1 .1 .1 .1 .0) _ _ (b .ensures) (span (b .result) 10944) (p .last .0) (p .kept .0)
     ∙ sym (s .pre .1 .1)
 
 returns : tie.Need-returns
 unfolding part
 returns c =
-    let s = c .before .before .before .before .before .before .before .before .before .before .before .before .before .before .before .before .before .before .before .before .before .before .before in
+    let s = c .before .before .before .before .before .before .before .before .before .before .before .before .before .before .before .before .before .before .before .before .before .before .before .before .before in
     let w = s .args .work .now in
     let g = s .args .sig .now in
     let e = s .args .e in
     let h = s .pre .1 in
-    let salt = c .before .before .before .before .before .before .before .before .before .before .before .before .before .before .before .before .before .before .before .before .load .ensures in
-    let k = c .before .before .before .before .before .before .before .before .before .before .before .before .before .before .before .eval in
-    let r = c .before .before .before .before .before .before .before .before .before .before .before .before .point .ensures in
+    let salt = c .before .before .before .before .before .before .before .before .before .before .before .before .before .before .before .before .before .before .before .before .before .before .load .ensures in
+    let a = c .before .before .before .before .before .before .before .before .before .before .before .before .before .before .before .before .before .before .before .before .before .at-tree in
+    let k = c .before .before .before .before .before .before .before .before .before .before .before .before .before .before .before .before .eval in
+    let b = c .before .before .before .before .before .before .before .before .before .before .before .at-vectors in
+    let r = c .before .before .before .before .before .before .before .before .before .before .before .before .before .point .ensures in
     let p = c .before .before .before .before .before .before .before .before .before .put-values in
     λ i q o.
     let v = k .ensures (sigPaths r3 g) (sigOuts r3 g) (sigSent r3 g) (path-is g e (h .0) (h .2)) (out-is g e (h .0) (h .2)) (sent-is g e (h .0) (h .2)) in
-    evaluated-code w (k .last .1 .1 .1 .1 .1 .1 .1 .0) (h .1) (k .kept .1 .1 .1 .1 .1 .1 .1 .0) (p .last .0) (p .kept .0) e _ _ _ _ _ _ (h .2) (c .before .before .keep-values .ensures) (p .ensures)
+    evaluated-code _ _ (a .ensures) (span (a .result) 12289) w (k .last .1 .1 .1 .1 .1 .1 .1 .0) (h .1) (k .kept .1 .1 .1 .1 .1 .1 .1 .0) _ _ (b .ensures) (span (b .result) 10944) (p .last .0) (p .kept .0) e _ _ _ _ _ _ (h .2) (c .before .before .keep-values .ensures) (p .ensures)
     (sigSalt r3 g) (sigPaths r3 g) (sigOuts r3 g) (sigSent r3 g) (sigAlpha1 r3 g) i _ (s .args .hidden) salt q (alpha1-is g e (h .0) (h .2)) r (v .x-is) (v .hash-is) (v .u-is) o
 
 pub eval-one-spec : {M : Type 1} → statement M
@@ -175,6 +198,7 @@ eval-one-spec =
     add-h
     mul-c
     add-c
+    at-tree-requires
     add-eval
     sub-eval
     part-eval-start
@@ -187,11 +211,14 @@ eval-one-spec =
     sub-eval-3
     part-eval-start-3
     part-eval-end-3
+    add-eval-4
     sub-eval-4
     part-eval-start-4
     part-eval-end-4
     eval-requires
     point-requires
+    at-vectors-requires
+    add-put-values
     sub-put-values
     part-put-values-start
     part-put-values-end

@@ -1,26 +1,30 @@
 -- `checker::recompute` meets its contract. Assumes nothing.
 use mathlib.Core.Path.{sym, ap, _∙_}
 use native.Mathlib.Omega.{arith}
-use lib.ListN.{length}
+use lib.ListN.{length, length-take}
 use Rattle.octets.specs.Lists.{part}
 use Rattle.octets.proofs.Part.{length-part}
 use Rattle.octets.proofs.Place.{length-place}
+use Rattle.workspace.proofs.Lent.{span}
 use Rattle.checker.proofs.Lent.{length-masks, keys-stand, recompute-same}
 use borrow.Author.Needs.{needs}
 use Rattle.checker.proofs.recompute.Statement.{statement}
 use Rattle.checker.proofs.recompute.Tie as tie
 
-sub-plain-keys : tie.Need-sub-plain-keys
-sub-plain-keys c = search needs
+at-vectors-requires : tie.Need-at-vectors-requires
+at-vectors-requires c κs = search needs
 
-part-plain-keys-start : tie.Need-part-plain-keys-start
-part-plain-keys-start c = search needs
+slice-relend-prefix-plain-keys : tie.Need-slice-relend-prefix-plain-keys
+slice-relend-prefix-plain-keys c = search needs
 
-part-plain-keys-end : tie.Need-part-plain-keys-end
-part-plain-keys-end c = search needs
+slice-aggregate-plain-keys : tie.Need-slice-aggregate-plain-keys
+slice-aggregate-plain-keys c = simp length-take (omega arith)
 
 plain-keys-requires : tie.Need-plain-keys-requires
-plain-keys-requires c κs = search needs
+plain-keys-requires c κs = (c .before .before .before .before .before .pre .0, simp length-take (omega arith))
+
+add-spread : tie.Need-add-spread
+add-spread c = search needs
 
 sub-spread : tie.Need-sub-spread
 sub-spread c = search needs
@@ -37,11 +41,12 @@ spread-requires c κs = search needs
 recompute-all-requires : tie.Need-recompute-all-requires
 unfolding part
 recompute-all-requires c κs =
-    let s = c .before .before .before .before .before .before .before .before .before .before .before .before in
+    let s = c .before .before .before .before .before .before .before .before .before .before .before .before .before in
     let w = s .args .work .now in
+    let v = c .before .before .before .before .before .before .before .before .before .at-vectors in
     let k = c .before .before .before .before .before .before .before .plain-keys in
     let y = c .before .before .before .spread in
-    (s .pre .0, ((s .pre .1 .0, length-masks w (k .last .1 .0) (y .last .0) (s .pre .1 .2) (k .kept .1 .0) (y .kept .0)), keys-stand w (k .last .1 .0) (y .last .0) (s .pre .1 .2) (k .kept .1 .0) (y .kept .0) (k .ensures)))
+    (s .pre .0, ((s .pre .1 .0, length-masks _ _ (v .ensures) (span (v .result) 10944) w (k .last .1 .0) (y .last .0) (s .pre .1 .2) (k .kept .1 .0) (y .kept .0)), keys-stand _ _ (v .ensures) (span (v .result) 10944) w (k .last .1 .0) (y .last .0) (s .pre .1 .2) (k .kept .1 .0) (y .kept .0) (k .ensures)))
 
 sub-put : tie.Need-sub-put
 sub-put c = search needs
@@ -50,28 +55,30 @@ part-put-start : tie.Need-part-put-start
 part-put-start c = search needs
 
 part-put-end : tie.Need-part-put-end
-part-put-end c = omega (arith, c .before .before .before .before .before .before .before .before .before .before .before .before .before .before .before .pre)
+part-put-end c = omega (arith, c .before .before .before .before .before .before .before .before .before .before .before .before .before .before .before .before .pre)
 
 put-requires : tie.Need-put-requires
 unfolding part
 put-requires c κs =
-    let s = c .before .before .before .before .before .before .before .before .before .before .before .before .before .before .before .before .before in
+    let s = c .before .before .before .before .before .before .before .before .before .before .before .before .before .before .before .before .before .before in
     let w = s .args .work .now in
+    let v = c .before .before .before .before .before .before .before .before .before .before .before .before .before .before .at-vectors in
     let k = c .before .before .before .before .before .before .before .before .before .before .before .before .plain-keys in
     let y = c .before .before .before .before .before .before .before .before .spread in
     let u = c .before .before .before .before .recompute-all in
-    let lu = u .kept .1 .1 .0 ∙ length-masks w (k .last .1 .0) (y .last .0) (s .pre .1 .2) (k .kept .1 .0) (y .kept .0) in
+    let lu = u .kept .1 .1 .0 ∙ length-masks _ _ (v .ensures) (span (v .result) 10944) w (k .last .1 .0) (y .last .0) (s .pre .1 .2) (k .kept .1 .0) (y .kept .0) in
     omega (arith, lu, length-part 80 476 (s .args .sig .now) (omega (arith, s .pre)))
 
 second-commitment-requires : tie.Need-second-commitment-requires
 unfolding part
 second-commitment-requires c κs =
-    let s = c .before .before .before .before .before .before .before .before .before .before .before .before .before .before .before .before .before .before .before .before .before in
+    let s = c .before .before .before .before .before .before .before .before .before .before .before .before .before .before .before .before .before .before .before .before .before .before in
     let w = s .args .work .now in
+    let v = c .before .before .before .before .before .before .before .before .before .before .before .before .before .before .before .before .before .before .at-vectors in
     let k = c .before .before .before .before .before .before .before .before .before .before .before .before .before .before .before .before .plain-keys in
     let y = c .before .before .before .before .before .before .before .before .before .before .before .before .spread in
     let u = c .before .before .before .before .before .before .before .before .recompute-all in
-    let lu = u .kept .1 .1 .0 ∙ length-masks w (k .last .1 .0) (y .last .0) (s .pre .1 .2) (k .kept .1 .0) (y .kept .0) in
+    let lu = u .kept .1 .1 .0 ∙ length-masks _ _ (v .ensures) (span (v .result) 10944) w (k .last .1 .0) (y .last .0) (s .pre .1 .2) (k .kept .1 .0) (y .kept .0) in
     ap length (c .before .before .before .put .ensures) ∙ length-place _ _ _ ∙ lu
 
 slice-aggregate-same : tie.Need-slice-aggregate-same
@@ -84,7 +91,7 @@ part-same-start : tie.Need-part-same-start
 part-same-start c = search needs
 
 part-same-end : tie.Need-part-same-end
-part-same-end c = omega (arith, c .before .before .before .before .before .before .before .before .before .before .before .before .before .before .before .before .before .before .before .before .before .before .before .before .before .pre)
+part-same-end c = omega (arith, c .before .before .before .before .before .before .before .before .before .before .before .before .before .before .before .before .before .before .before .before .before .before .before .before .before .before .pre)
 
 same-requires : tie.Need-same-requires
 same-requires c κs = search needs
@@ -92,37 +99,40 @@ same-requires c κs = search needs
 same-length : tie.Need-same-length
 unfolding part
 same-length c =
-    let s = c .before .before .before .before .before .before .before .before .before .before .before .before .before .before .before .before .before .before .before .before .before .before .before .before .before .before .before in
+    let s = c .before .before .before .before .before .before .before .before .before .before .before .before .before .before .before .before .before .before .before .before .before .before .before .before .before .before .before .before in
     let w = s .args .work .now in
+    let v = c .before .before .before .before .before .before .before .before .before .before .before .before .before .before .before .before .before .before .before .before .before .before .before .before .at-vectors in
     let k = c .before .before .before .before .before .before .before .before .before .before .before .before .before .before .before .before .before .before .before .before .before .before .plain-keys in
     let y = c .before .before .before .before .before .before .before .before .before .before .before .before .before .before .before .before .before .before .spread in
     let u = c .before .before .before .before .before .before .before .before .before .before .before .before .before .before .recompute-all in
-    let lu = u .kept .1 .1 .0 ∙ length-masks w (k .last .1 .0) (y .last .0) (s .pre .1 .2) (k .kept .1 .0) (y .kept .0) in
+    let lu = u .kept .1 .1 .0 ∙ length-masks _ _ (v .ensures) (span (v .result) 10944) w (k .last .1 .0) (y .last .0) (s .pre .1 .2) (k .kept .1 .0) (y .kept .0) in
     let p = c .before .before .before .before .before .before .before .before .before .put .ensures in
     ap length (c .before .before .before .before .before .second-commitment .ensures .1) ∙ length-place _ _ _ ∙ ap length p ∙ length-place _ _ _ ∙ lu ∙ sym (s .pre .1 .2)
 
 returns : tie.Need-returns
 unfolding part
 returns c =
-    let s = c .before .before .before .before .before .before .before .before .before .before .before .before .before .before .before .before .before .before .before .before .before .before .before .before .before .before .before in
+    let s = c .before .before .before .before .before .before .before .before .before .before .before .before .before .before .before .before .before .before .before .before .before .before .before .before .before .before .before .before in
     let w = s .args .work .now in
+    let v = c .before .before .before .before .before .before .before .before .before .before .before .before .before .before .before .before .before .before .before .before .before .before .before .before .at-vectors in
     let k = c .before .before .before .before .before .before .before .before .before .before .before .before .before .before .before .before .before .before .before .before .before .before .plain-keys in
     let y = c .before .before .before .before .before .before .before .before .before .before .before .before .before .before .before .before .before .before .spread in
     let u = c .before .before .before .before .before .before .before .before .before .before .before .before .before .before .recompute-all in
-    let lu = u .kept .1 .1 .0 ∙ length-masks w (k .last .1 .0) (y .last .0) (s .pre .1 .2) (k .kept .1 .0) (y .kept .0) in
+    let lu = u .kept .1 .1 .0 ∙ length-masks _ _ (v .ensures) (span (v .result) 10944) w (k .last .1 .0) (y .last .0) (s .pre .1 .2) (k .kept .1 .0) (y .kept .0) in
     let p = c .before .before .before .before .before .before .before .before .before .put .ensures in
     let b = c .before .before .before .before .before .second-commitment .ensures .0 in
     λ i g.
-    recompute-same w (k .last .1 .0) (y .last .0) (s .pre .1 .2) (k .kept .1 .0) (y .kept .0) (s .args .pk .now) (s .args .sig .now) i (s .pre .1 .1) g (y .ensures) _ _ _ _ lu (u .ensures) p b (c .same .ensures)
+    recompute-same _ _ (v .ensures) (span (v .result) 10944) w (k .last .1 .0) (y .last .0) (s .pre .1 .2) (k .kept .1 .0) (y .kept .0) (s .args .pk .now) (s .args .sig .now) i (s .pre .1 .1) g (y .ensures) _ _ _ _ lu (u .ensures) p b (c .same .ensures)
 
 pub recompute-spec : {M : Type 1} → statement M
 recompute-spec =
     tie.close
     (tie.spec
-    sub-plain-keys
-    part-plain-keys-start
-    part-plain-keys-end
+    at-vectors-requires
+    slice-relend-prefix-plain-keys
+    slice-aggregate-plain-keys
     plain-keys-requires
+    add-spread
     sub-spread
     part-spread-start
     part-spread-end

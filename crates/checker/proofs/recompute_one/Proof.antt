@@ -1,12 +1,24 @@
 -- `checker::recompute_one` meets its contract. Assumes nothing.
+use mathlib.Core.Path.{refl, _∙_}
 use native.Mathlib.Omega.{arith}
+use lib.ListN.{length-take}
 use Rattle.octets.specs.Lists.{part}
 use Rattle.octets.proofs.Part.{length-part}
 use Rattle.paper.specs.Keys.{mseedEqOf}
+use Rattle.workspace.proofs.Lent.{span, length-slice, part-at}
 use Rattle.checker.proofs.Lent.{recomputed-keys, recomputed-one}
 use borrow.Author.Needs.{needs}
 use Rattle.checker.proofs.recompute_one.Statement.{statement}
 use Rattle.checker.proofs.recompute_one.Tie as tie
+
+at-vectors-requires : tie.Need-at-vectors-requires
+at-vectors-requires c κs = search needs
+
+slice-reshare-prefix-expand : tie.Need-slice-reshare-prefix-expand
+slice-reshare-prefix-expand c = search needs
+
+slice-aggregate-expand : tie.Need-slice-aggregate-expand
+slice-aggregate-expand c = simp length-take (omega arith)
 
 sub-expand : tie.Need-sub-expand
 sub-expand c = search needs
@@ -17,20 +29,15 @@ part-expand-start c = search needs
 part-expand-end : tie.Need-part-expand-end
 part-expand-end c = search needs
 
-sub-expand-2 : tie.Need-sub-expand-2
-sub-expand-2 c = search needs
-
-part-expand-start-2 : tie.Need-part-expand-start-2
-part-expand-start-2 c = search needs
-
-part-expand-end-2 : tie.Need-part-expand-end-2
-part-expand-end-2 c = search needs
-
 expand-requires : tie.Need-expand-requires
 unfolding part
 expand-requires c κs =
     let s = c .before .before .before .before .before in
-    (s .pre .0, (s .pre .1 .1, (length-part 0 32 (s .args .pk .now) (omega (arith, s .pre .1 .0)), s .pre .1 .0 .2)))
+    let b = c .before .before .at-vectors in
+    (s .pre .0, (part-at 0 _ 0 18304 refl (b .ensures) (s .args .work .now) ∙ s .pre .1 .1, (length-part 0 32 (s .args .pk .now) (omega (arith, s .pre .1 .0)), s .pre .1 .0 .2)))
+
+add-at-points : tie.Need-add-at-points
+add-at-points c = search needs
 
 sub-at-points : tie.Need-sub-at-points
 sub-at-points c = search needs
@@ -44,8 +51,8 @@ part-at-points-end c = search needs
 slice-aggregate-at-points : tie.Need-slice-aggregate-at-points
 slice-aggregate-at-points c = search needs
 
-add-at-points : tie.Need-add-at-points
-add-at-points c = search needs
+add-at-points-2 : tie.Need-add-at-points-2
+add-at-points-2 c = search needs
 
 shared-slice-read-at-points : tie.Need-shared-slice-read-at-points
 shared-slice-read-at-points c = search needs
@@ -54,7 +61,14 @@ at-points-requires : tie.Need-at-points-requires
 unfolding part
 at-points-requires c κs =
     let s = c .before .before .before .before .before .before .before .before .before .before in
-    (length-part 18304 10944 (s .args .work .now) (omega (arith, s .pre .1 .0)), omega arith)
+    let b = c .before .before .before .before .before .before .before .at-vectors in
+    (length-slice (b .result) 10944 (s .args .work .now) (omega (arith, s .pre .1 .0, b .ensures)), omega arith)
+
+at-alpha0-requires : tie.Need-at-alpha0-requires
+at-alpha0-requires c κs = search needs
+
+add-add-column : tie.Need-add-add-column
+add-add-column c = search needs
 
 sub-add-column : tie.Need-sub-add-column
 sub-add-column c = search needs
@@ -68,8 +82,9 @@ part-add-column-end c = search needs
 add-column-requires : tie.Need-add-column-requires
 unfolding part
 add-column-requires c κs =
-    let s = c .before .before .before .before .before .before .before .before .before .before .before .before in
-    (length-part 42401 476 (s .args .work .now) (omega (arith, s .pre .1 .0)), s .pre .1 .0 .2)
+    let s = c .before .before .before .before .before .before .before .before .before .before .before .before .before in
+    let a = c .before .at-alpha0 in
+    (length-slice (a .result) 476 (s .args .work .now) (omega (arith, s .pre .1 .0, a .ensures)), s .pre .1 .0 .2)
 
 same-length : tie.Need-same-length
 same-length c = search needs
@@ -77,32 +92,39 @@ same-length c = search needs
 returns : tie.Need-returns
 unfolding part mseedEqOf
 returns c =
-    let s = c .before .before .before .before .before .before .before .before .before .before .before .before .before .before .before in
+    let s = c .before .before .before .before .before .before .before .before .before .before .before .before .before .before .before .before in
     let w = s .args .work .now in
     let h = s .pre .1 .0 in
-    let q = c .before .before .before .before .before .before .before .before .before .expand .ensures in
-    let z = c .before .before .before .before .at-points .ensures in
-    let a = c .before .before .add-column in
-    (recomputed-keys w (a .last .0) (h .1) (a .kept .0) (s .pre .1 .1), recomputed-one w (a .last .0) (h .1) (a .kept .0) (s .args .pk .now) _ _ (s .args .i) (h .2) q z (a .ensures))
+    let q = c .before .before .before .before .before .before .before .before .before .before .expand .ensures in
+    let z = c .before .before .before .before .before .at-points .ensures in
+    let b = c .before .before .before .before .before .before .before .before .before .before .before .before .before .at-vectors in
+    let a = c .before .before .before .before .at-alpha0 in
+    let y = c .before .before .add-column in (
+      recomputed-keys _ _ (a .ensures) (span (a .result) 476) w (y .last .0) (h .1) (y .kept .0) (s .pre .1 .1),
+      recomputed-one _ _ (a .ensures) (span (a .result) 476) w (y .last .0) (h .1) (y .kept .0) _ _ (b .ensures) (span (b .result) 10944) (s .args .pk .now) _ _ (s .args .i) (h .2) q z (y .ensures),
+    )
 
 pub recompute-one-spec : {M : Type 1} → statement M
 recompute-one-spec =
     tie.close
     (tie.spec
+    at-vectors-requires
+    slice-reshare-prefix-expand
+    slice-aggregate-expand
     sub-expand
     part-expand-start
     part-expand-end
-    sub-expand-2
-    part-expand-start-2
-    part-expand-end-2
     expand-requires
+    add-at-points
     sub-at-points
     part-at-points-start
     part-at-points-end
     slice-aggregate-at-points
-    add-at-points
+    add-at-points-2
     shared-slice-read-at-points
     at-points-requires
+    at-alpha0-requires
+    add-add-column
     sub-add-column
     part-add-column-start
     part-add-column-end

@@ -1,5 +1,5 @@
 -- `signer::commit` meets its contract. Assumes nothing.
-use mathlib.Core.Path.{_≡_, subst, _∙_}
+use mathlib.Core.Path.{_≡_, refl, subst, _∙_}
 use mathlib.Core.List.{List}
 use Prim.Native.Nat.{ℕ}
 use native.Mathlib.Omega.{arith}
@@ -7,7 +7,7 @@ use lib.ListN.{length}
 use Rattle.octets.specs.Lists.{part}
 use Rattle.octets.proofs.Part.{part-all}
 use Rattle.signer.specs.State.{Committed}
-use Rattle.signer.proofs.Lent.{back, length-back}
+use Rattle.workspace.proofs.Lent.{length-after, lent}
 use Rattle.signer.proofs.Committing.{keys-back, keys-end, committed-start}
 use borrow.Author.Needs.{needs}
 use Rattle.signer.proofs.commit.Statement.{statement}
@@ -34,7 +34,8 @@ put-roots-requires c κs =
     let s = c .before .before .before .before .before .before .before .before .before .before in
     let w = s .args .work .now in
     let p = c .before .before .before .before .plain-keys in
-    (s .pre .0, (length-back 0 18304 (p .last .1 .0) w (p .kept .1 .0) (omega (arith, s .pre)) ∙ s .pre .1 .3, keys-back w (p .last .1 .0) (s .pre .1 .3) (p .kept .1 .0) (p .ensures)))
+    let g = lent 0 18304 0 18304 refl refl (p .last .1 .0) w (omega (arith, s .pre)) (p .kept .1 .0) in
+    (s .pre .0, (length-after g ∙ s .pre .1 .3, keys-back (s .pre .1 .3) g (p .ensures)))
 
 load-requires-2 : tie.Need-load-requires-2
 load-requires-2 c κs = search needs
@@ -52,15 +53,15 @@ returns c =
     let a = s .args in
     let w = a .work .now in
     let p = c .before .before .before .before .before .before .before .before .before .before .before .before .plain-keys in
-    let w1 = back 0 18304 (p .last .1 .0) w in
-    let l : length w1 ≡ 65536 = length-back 0 18304 (p .last .1 .0) w (p .kept .1 .0) (omega (arith, s .pre)) ∙ s .pre .1 .3 in
+    let g = lent 0 18304 0 18304 refl refl (p .last .1 .0) w (omega (arith, s .pre)) (p .kept .1 .0) in
+    let l = length-after g ∙ s .pre .1 .3 in
     let r = c .before .before .before .before .before .before .before .put-roots .ensures in
     let k = c .before .before .commit-all .ensures in
     let m = c .before .before .before .before .before .before .before .before .load .ensures ∙ part-all 16 (a .mseed .now) (s .pre .1 .2) in
     let z = c .before .before .before .before .load2 .ensures ∙ part-all 16 (a .salt .now) (s .pre .1 .1) in (
-      keys-end w1 _ _ _ l (keys-back w (p .last .1 .0) (s .pre .1 .3) (p .kept .1 .0) (p .ensures)) r (k .0),
+      keys-end _ _ _ _ l (keys-back (s .pre .1 .3) g (p .ensures)) r (k .0),
       subst (λ (t : List ℕ). Committed (a .mseed .now) t (a .x .now) 17 (c .before .before .commit-all .last .1 .1 .1 .0)) z
-          (k .1 (a .mseed .now) (committed-start w1 _ (a .mseed .now) _ _ (a .x .now) l (s .pre .1 .2) m r)),
+          (k .1 (a .mseed .now) (committed-start _ _ (a .mseed .now) _ _ (a .x .now) l (s .pre .1 .2) m r)),
     )
 
 pub commit-spec : {M : Type 1} → statement M

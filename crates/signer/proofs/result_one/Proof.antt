@@ -5,8 +5,9 @@ use lib.ListN.{length}
 use Rattle.octets.specs.Lists.{part}
 use Rattle.octets.proofs.Part.{length-part}
 use Rattle.paper.specs.Keys.{mseedEqOf}
-use Rattle.signer.proofs.Lent.{length-back}
-use Rattle.signer.proofs.Columns.{column-lent, one-within, one-adds}
+use Rattle.workspace.specs.Map.{atVectors, atAlpha0, atAlpha1}
+use Rattle.workspace.proofs.Lent.{length-after, span, part-at, length-lend, lent}
+use Rattle.signer.proofs.Columns.{one-within, one-adds}
 use borrow.Author.Needs.{needs}
 use Rattle.signer.proofs.result_one.Statement.{statement}
 use Rattle.signer.proofs.result_one.Tie as tie
@@ -35,6 +36,12 @@ expand-requires c κs =
     let p = c .before .before .before .before .before .pre in
     (p .0, (p .1 .2, (length-part 0 32 (c .before .before .before .before .before .args .pk .now) (omega (arith, p)), p .1 .3)))
 
+at-vectors-requires : tie.Need-at-vectors-requires
+at-vectors-requires c κs = search needs
+
+add-on-lines : tie.Need-add-on-lines
+add-on-lines c = search needs
+
 sub-on-lines : tie.Need-sub-on-lines
 sub-on-lines c = search needs
 
@@ -50,8 +57,15 @@ slice-aggregate-on-lines c = search needs
 on-lines-requires : tie.Need-on-lines-requires
 unfolding part
 on-lines-requires c κs =
-    let s = c .before .before .before .before .before .before .before .before .before in
-    (length-part 18304 10944 (s .args .work .now) (omega (arith, s .pre)), omega (arith, slice-aggregate-on-lines c))
+    let s = c .before .before .before .before .before .before .before .before .before .before in
+    let v = c .before .before .before .at-vectors in
+    (length-lend (v .result) _ atVectors 10944 (v .ensures) (span (v .result) 10944) (s .args .work .now) (omega (arith, s .pre)), omega (arith, slice-aggregate-on-lines c))
+
+at-alpha0-requires : tie.Need-at-alpha0-requires
+at-alpha0-requires c κs = search needs
+
+add-add-column : tie.Need-add-add-column
+add-add-column c = search needs
 
 sub-add-column : tie.Need-sub-add-column
 sub-add-column c = search needs
@@ -65,8 +79,15 @@ part-add-column-end c = search needs
 add-column-requires : tie.Need-add-column-requires
 unfolding part
 add-column-requires c κs =
-    let s = c .before .before .before .before .before .before .before .before .before .before .before .before .before in
-    (length-part 42401 476 (s .args .work .now) (omega (arith, s .pre)), s .pre .1 .3)
+    let s = c .before .before .before .before .before .before .before .before .before .before .before .before .before .before .before in
+    let a = c .before .at-alpha0 in
+    (length-lend (a .result) _ atAlpha0 476 (a .ensures) (span (a .result) 476) (s .args .work .now) (omega (arith, s .pre)), s .pre .1 .3)
+
+at-alpha1-requires : tie.Need-at-alpha1-requires
+at-alpha1-requires c κs = search needs
+
+add-add-column-2 : tie.Need-add-add-column-2
+add-add-column-2 c = search needs
 
 sub-add-column-2 : tie.Need-sub-add-column-2
 sub-add-column-2 c = search needs
@@ -77,44 +98,59 @@ part-add-column-start-2 c = search needs
 part-add-column-end-2 : tie.Need-part-add-column-end-2
 unfolding part
 part-add-column-end-2 c =
-    let s = c .before .before .before .before .before .before .before .before .before .before .before .before .before .before .before .before in
-    let k = c .before .before .add-column in
-    omega (arith, s .pre, length-back 42401 476 (k .last .0) (s .args .work .now) (k .kept .0) (omega (arith, s .pre)))
+    let s = c .before .before .before .before .before .before .before .before .before .before .before .before .before .before .before .before .before .before .before in
+    let a = c .before .before .before .before .before .at-alpha0 in
+    let k = c .before .before .before .add-column in
+    let g = lent (a .result) _ atAlpha0 476 (a .ensures) (span (a .result) 476) (k .last .0) (s .args .work .now) (omega (arith, s .pre)) (k .kept .0) in
+    omega (arith, c .at-alpha1 .ensures, s .pre, length-after g)
 
 add-column-requires-2 : tie.Need-add-column-requires-2
 unfolding part
 add-column-requires-2 c κs =
-    let s = c .before .before .before .before .before .before .before .before .before .before .before .before .before .before .before .before .before in
-    let k = c .before .before .before .add-column in
-    (column-lent (s .args .work .now) (k .last .0) (s .pre .1 .1) (k .kept .0), s .pre .1 .3)
+    let s = c .before .before .before .before .before .before .before .before .before .before .before .before .before .before .before .before .before .before .before .before in
+    let a = c .before .before .before .before .before .before .at-alpha0 in
+    let k = c .before .before .before .before .add-column in
+    let b = c .before .at-alpha1 in
+    let g = lent (a .result) _ atAlpha0 476 (a .ensures) (span (a .result) 476) (k .last .0) (s .args .work .now) (omega (arith, s .pre)) (k .kept .0) in
+    (length-lend (b .result) _ atAlpha1 476 (b .ensures) (span (b .result) 476) _ (omega (arith, s .pre, length-after g)), s .pre .1 .3)
 
 array-read-result : tie.Need-array-read-result
 array-read-result c = search needs
 
 add-result : tie.Need-add-result
-add-result c = omega (arith, c .before .before .before .before .before .before .before .before .before .before .before .before .before .before .before .before .before .before .before .before .pre)
+add-result c = omega (arith, c .before .before .before .before .before .before .before .before .before .before .before .before .before .before .before .before .before .before .before .before .before .before .before .pre)
 
 shared-slice-read-result : tie.Need-shared-slice-read-result
-shared-slice-read-result c = omega (arith, c .before .before .before .before .before .before .before .before .before .before .before .before .before .before .before .before .before .before .before .before .before .pre)
+shared-slice-read-result c = omega (arith, c .before .before .before .before .before .before .before .before .before .before .before .before .before .before .before .before .before .before .before .before .before .before .before .before .pre)
 
 same-length : tie.Need-same-length
 unfolding part
 same-length c =
-    let s = c .before .before .before .before .before .before .before .before .before .before .before .before .before .before .before .before .before .before .before .before .before in
-    let k = c .before .before .before .before .before .before .before .add-column in
+    let s = c .before .before .before .before .before .before .before .before .before .before .before .before .before .before .before .before .before .before .before .before .before .before .before .before in
+    let a = c .before .before .before .before .before .before .before .before .before .before .at-alpha0 in
+    let k = c .before .before .before .before .before .before .before .before .add-column in
+    let b = c .before .before .before .before .before .at-alpha1 in
     let l = c .before .before .before .add-column2 in
-    one-within (s .args .i) (s .args .work .now) (k .last .0) (l .last .0) (s .pre .1 .3) (s .pre .1 .1) (k .kept .0) (l .kept .0) .size
+    let g = lent (a .result) _ atAlpha0 476 (a .ensures) (span (a .result) 476) (k .last .0) (s .args .work .now) (omega (arith, s .pre)) (k .kept .0) in
+    let h = lent (b .result) _ atAlpha1 476 (b .ensures) (span (b .result) 476) (l .last .0) _ (omega (arith, s .pre, length-after g)) (l .kept .0) in
+    one-within (s .args .i) (s .args .work .now) _ _ _ _ _ _ (s .pre .1 .3) (s .pre .1 .1) g h .size
 
 returns : tie.Need-returns
 unfolding part mseedEqOf
 returns c =
-    let s = c .before .before .before .before .before .before .before .before .before .before .before .before .before .before .before .before .before .before .before .before .before in
-    let a = s .args in
-    let k = c .before .before .before .before .before .before .before .add-column in
-    let l = c .before .before .before .add-column2 in (
-      one-within (a .i) (a .work .now) (k .last .0) (l .last .0) (s .pre .1 .3) (s .pre .1 .1) (k .kept .0) (l .kept .0),
-      one-adds (a .i) (a .work .now) (k .last .0) (l .last .0) (s .pre .1 .3) (s .pre .1 .1) (k .kept .0) (l .kept .0) (a .pk .now) _ _ _
-          (c .before .before .before .before .before .before .before .before .before .before .before .before .before .before .before .expand .ensures) (c .before .before .before .before .before .before .before .before .before .before .before .on-lines .ensures) (k .ensures) (l .ensures),
+    let s = c .before .before .before .before .before .before .before .before .before .before .before .before .before .before .before .before .before .before .before .before .before .before .before .before in
+    let i = s .args .i in
+    let w = s .args .work .now in
+    let v = c .before .before .before .before .before .before .before .before .before .before .before .before .before .before .before .before .before .at-vectors in
+    let a = c .before .before .before .before .before .before .before .before .before .before .at-alpha0 in
+    let k = c .before .before .before .before .before .before .before .before .add-column in
+    let b = c .before .before .before .before .before .at-alpha1 in
+    let l = c .before .before .before .add-column2 in
+    let g = lent (a .result) _ atAlpha0 476 (a .ensures) (span (a .result) 476) (k .last .0) (s .args .work .now) (omega (arith, s .pre)) (k .kept .0) in
+    let h = lent (b .result) _ atAlpha1 476 (b .ensures) (span (b .result) 476) (l .last .0) _ (omega (arith, s .pre, length-after g)) (l .kept .0) in (
+      one-within i w _ _ _ _ _ _ (s .pre .1 .3) (s .pre .1 .1) g h,
+      one-adds i w _ _ _ _ _ _ (s .pre .1 .3) (s .pre .1 .1) g h (s .args .pk .now) _ _ _ _ (c .before .before .before .before .before .before .before .before .before .before .before .before .before .before .before .before .before .before .expand .ensures)
+          (part-at (v .result) _ atVectors 10944 (v .ensures) (span (v .result) 10944) w) (c .before .before .before .before .before .before .before .before .before .before .before .before .before .on-lines .ensures) (k .ensures) (l .ensures),
     )
 
 pub result-one-spec : {M : Type 1} → statement M
@@ -128,15 +164,21 @@ result-one-spec =
     part-expand-start-2
     part-expand-end-2
     expand-requires
+    at-vectors-requires
+    add-on-lines
     sub-on-lines
     part-on-lines-start
     part-on-lines-end
     slice-aggregate-on-lines
     on-lines-requires
+    at-alpha0-requires
+    add-add-column
     sub-add-column
     part-add-column-start
     part-add-column-end
     add-column-requires
+    at-alpha1-requires
+    add-add-column-2
     sub-add-column-2
     part-add-column-start-2
     part-add-column-end-2

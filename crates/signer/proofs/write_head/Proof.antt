@@ -1,13 +1,14 @@
 -- `signer::write_head` meets its contract. Assumes nothing.
 use mathlib.Core.Path.{_≡_, ap, _∙_}
-use mathlib.Core.List.{List}
-use Prim.Native.Nat.{ℕ, _+_, _*_}
+use mathlib.Core.List.{List, _++_}
+use Prim.Native.Nat.{ℕ}
 use native.Mathlib.Omega.{arith}
 use lib.ListN.{length}
 use Rattle.octets.specs.Lists.{part}
 use Rattle.octets.specs.Place.{place}
-use Rattle.octets.proofs.Part.{length-part}
 use Rattle.octets.proofs.Place.{length-place}
+use Rattle.workspace.specs.Map.{atAlpha1}
+use Rattle.workspace.proofs.Lent.{span, part-at, length-lend}
 use Rattle.signer.proofs.Openings.{head-written}
 use borrow.Author.Needs.{needs}
 use Rattle.signer.proofs.write_head.Statement.{statement}
@@ -22,6 +23,12 @@ put-requires-2 c κs = search needs
 put-requires-3 : tie.Need-put-requires-3
 put-requires-3 c κs = search needs
 
+at-alpha1-requires : tie.Need-at-alpha1-requires
+at-alpha1-requires c κs = search needs
+
+add-put : tie.Need-add-put
+add-put c = search needs
+
 sub-put : tie.Need-sub-put
 sub-put c = search needs
 
@@ -34,10 +41,10 @@ part-put-end c = search needs
 put-requires-4 : tie.Need-put-requires-4
 unfolding part
 put-requires-4 c κs =
-    let b = c .before .before .before .before in
-    let s = c .before .before .before .before .before .before .before .before .before .before .before .before .before .before .before .before .before .before .before in
-    let l = ap length (b .put3 .ensures) ∙ length-place _ _ _ ∙ ap length (b .before .before .before .before .put2 .ensures) ∙ length-place _ _ _ ∙ ap length (b .before .before .before .before .before .before .before .before .put .ensures) ∙ length-place _ _ _ in
-    omega (arith, l, s .pre, length-part 42877 476 (s .args .work .now) (omega arith))
+    let s = c .before .before .before .before .before .before .before .before .before .before .before .before .before .before .before .before .before .before .before .before in
+    let a = c .before .before .at-alpha1 in
+    let l = ap length (c .before .before .before .before .before .put3 .ensures) ∙ length-place _ _ _ ∙ ap length (c .before .before .before .before .before .before .before .before .before .put2 .ensures) ∙ length-place _ _ _ ∙ ap length (c .before .before .before .before .before .before .before .before .before .before .before .before .before .put .ensures) ∙ length-place _ _ _ in
+    omega (arith, l, s .pre, length-lend (a .result) _ atAlpha1 476 (a .ensures) (span (a .result) 476) (s .args .work .now) (omega (arith, s .pre)))
 
 same-length : tie.Need-same-length
 same-length c = search needs
@@ -45,12 +52,13 @@ same-length c = search needs
 returns : tie.Need-returns
 unfolding part
 returns c =
-    let b = c .before .before in
-    let s = c .before .before .before .before .before .before .before .before .before .before .before .before .before .before .before .before .before .before .before .before .before .before in
+    let s = c .before .before .before .before .before .before .before .before .before .before .before .before .before .before .before .before .before .before .before .before .before .before .before in
     let a = s .args in
     let p = s .pre in
-    head-written (a .salt .now) (a .com1 .now) (a .com2 .now) (part 42877 476 (a .work .now)) (a .sig .now) (p .0) (p .1) (p .2)
-    (b .before .before .before .before .before .before .before .before .before .before .before .before .before .put .ensures) (b .before .before .before .before .before .before .before .before .before .put2 .ensures) (b .before .before .before .before .before .put3 .ensures) (b .put4 .ensures)
+    let v = c .before .before .before .before .before .at-alpha1 in
+    let e = part-at (v .result) _ atAlpha1 476 (v .ensures) (span (v .result) 476) (a .work .now) in
+    head-written (a .salt .now) (a .com1 .now) (a .com2 .now) _ (a .sig .now) (p .0) (p .1) (p .2) (c .before .before .before .before .before .before .before .before .before .before .before .before .before .before .before .before .put .ensures) (c .before .before .before .before .before .before .before .before .before .before .before .before .put2 .ensures) (c .before .before .before .before .before .before .before .before .put3 .ensures) (c .before .before .put4 .ensures)
+    ∙ ap (λ (l : List ℕ). place 0 (a .salt .now ++ (a .com1 .now ++ (a .com2 .now ++ l))) (a .sig .now)) e
 
 pub write-head-spec : {M : Type 1} → statement M
 write-head-spec =
@@ -59,6 +67,8 @@ write-head-spec =
     put-requires
     put-requires-2
     put-requires-3
+    at-alpha1-requires
+    add-put
     sub-put
     part-put-start
     part-put-end

@@ -1,5 +1,5 @@
 -- `signer::write_signature` meets its contract. Assumes nothing.
-use mathlib.Core.Path.{_≡_, sym, subst, _∙_}
+use mathlib.Core.Path.{_≡_, refl, sym, subst, _∙_}
 use mathlib.Core.List.{List}
 use Prim.Native.Nat.{ℕ}
 use native.Mathlib.Omega.{arith}
@@ -8,7 +8,7 @@ use Rattle.octets.specs.Lists.{part, bytesOf}
 use Rattle.octets.proofs.Part.{length-part, part-all, length-bytesOf}
 use Rattle.paper.specs.Keys.{solutionOf}
 use Rattle.signer.specs.Written.{Openable}
-use Rattle.signer.proofs.Lent.{length-back}
+use Rattle.workspace.proofs.Lent.{length-back}
 use Rattle.signer.proofs.Signing.{signature-written}
 use borrow.Author.Needs.{needs}
 use Rattle.signer.proofs.write_signature.Statement.{statement}
@@ -68,7 +68,7 @@ write-openings-requires c κs =
         length-part 60 28 (s .args .sk .now) (omega (arith, s .pre)),
         sym (slice-aggregate-write-openings (c .before)),
         s .pre .1 .5,
-        length-back 3480 4 (p .last .1 .0) (h .last .1 .1 .1 .1 .0) (p .kept .1 .0) (omega arith) ∙ l,
+        length-back 3480 4 3480 4 refl refl (p .last .1 .0) (h .last .1 .1 .1 .1 .0) (omega arith) (p .kept .1 .0) ∙ l,
       ),
     )
 
