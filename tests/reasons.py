@@ -8,6 +8,7 @@ import os
 import re
 import sys
 
+sys.dont_write_bytecode = True
 from tally import finish, tell
 
 # what is said where an edit breaks a proof's words before any fact
