@@ -18,9 +18,9 @@ use Rattle.algebra.proofs.Equation.{zAt-form}
 use Rattle.algebra.proofs.Degree.{system-degree}
 use Rattle.algebra.proofs.Points.{point-injective, point-lt}
 use Rattle.algebra.proofs.Opening.{leaves-line, hidden-term}
-use Rattle.paper.specs.Keys.{equation, satisfied}
+use Rattle.paper.specs.Keys.{satisfied}
 use Rattle.paper.specs.Commit.{lseed, correction, sentAt, pathAt, u0At, u1At, x0At, xEval, uEval}
-use Rattle.paper.specs.Challenge.{passes, firstBelow}
+use Rattle.paper.specs.Challenge.{firstBelow}
 use Rattle.paper.proofs.Unpacked.{Both, satisfied-unpacked}
 use Rattle.paper.proofs.Commit.{lseed-sum, correction-first}
 use Rattle.paper.specs.Alpha.{r3}

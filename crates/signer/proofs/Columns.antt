@@ -1,7 +1,7 @@
 -- A packed equation added to all result lines: what stands in the workspace after the writes of result_one. Assumes nothing.
-use mathlib.Core.Path.{_≡_, refl, sym, ap, ap₂, subst, _∙_}
+use mathlib.Core.Path.{_≡_, sym, ap, ap₂, subst, _∙_}
 use mathlib.Core.List.{List, []}
-use Prim.Native.Nat.{ℕ, suc, _+_, _*_, _<_, _≤_}
+use Prim.Native.Nat.{ℕ, _+_, _*_, _<_}
 use native.Mathlib.Omega.{arith}
 use borrow.Author.Count.{below-more}
 use lib.Bits.{bitXor, bitOr}
@@ -11,7 +11,7 @@ use Rattle.octets.specs.Xor.{_⊕_}
 use Rattle.octets.specs.Lists.{vec, part}
 use Rattle.octets.specs.Place.{place}
 use Rattle.octets.proofs.Tab.{length-tab, vec-tab}
-use Rattle.octets.proofs.Part.{length-part, vec-part}
+use Rattle.octets.proofs.Part.{vec-part}
 use Rattle.octets.proofs.Alike.{Gathered, gathered-start, gathered-turn, gathered-end}
 use Rattle.octets.proofs.Place.{length-place}
 use Rattle.octets.proofs.Frame.{vec-place, vec-place-before, vec-place-after}

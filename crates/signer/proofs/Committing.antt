@@ -8,7 +8,7 @@ use lib.ListN.{length}
 use Rattle.octets.specs.Lists.{vec, tab, part, joined}
 use Rattle.octets.specs.Place.{place}
 use Rattle.octets.proofs.Tab.{vec-tab}
-use Rattle.octets.proofs.Part.{length-part, vec-part}
+use Rattle.octets.proofs.Part.{vec-part}
 use Rattle.octets.proofs.Place.{length-place}
 use Rattle.octets.proofs.Frame.{vec-place, vec-place-before, part-place, part-before, part-after, part-turn, part-none}
 use Rattle.paper.specs.Commit.{rseed, hashLsCom, lscom, sentAt, u0At, u1At, x0At}

@@ -1,23 +1,19 @@
 -- The openings of all repetitions, and the whole signature, from the parts that are written. Assumes nothing.
-use mathlib.Core.Path.{_≡_, refl, sym, ap, ap₂, _∙_, subst}
-use mathlib.Core.List.{List, [], _∷_, _++_, append-assoc}
-use Prim.Native.Nat.{ℕ, zero, suc, _+_, _*_, _<_, _≤_}
+use mathlib.Core.Path.{_≡_, sym, ap, ap₂, _∙_}
+use mathlib.Core.List.{List, _++_, append-assoc}
+use Prim.Native.Nat.{ℕ, suc, _+_, _*_, _<_, _≤_}
 use native.Mathlib.Omega.{arith}
 use native.Mathlib.Numerals.{add-one}
 use lib.ListN.{length, length-append}
-use Rattle.octets.specs.Lists.{vec, part, joined, bytesOf}
+use Rattle.octets.specs.Lists.{part, joined}
 use Rattle.octets.specs.Place.{place}
-use Rattle.octets.proofs.Part.{length-joined, length-bytesOf, part-joined}
+use Rattle.octets.proofs.Part.{length-joined}
 use Rattle.octets.proofs.Place.{length-place, place-extend, place-apart, place-whole, place-none, place-turn}
-use Rattle.octets.proofs.Frame.{part-part}
-use Rattle.paper.specs.Keys.{solutionOf}
 use Rattle.paper.specs.Commit.{pathAt, lscom, sentAt, opening}
-use Rattle.paper.specs.Alpha.{r3}
-use Rattle.paper.specs.Challenge.{hiddenIn}
-use Rattle.paper.specs.Scheme.{signCom1, signCom2, signAlpha1, signChallenge, signWith}
 use Rattle.paper.proofs.Commit.{length-pathAt, length-lscom, length-sent}
 use Rattle.signer.specs.Written.{Openable, openingAt, openings}
-use Rattle.workspace.proofs.Lent.{back, back-place}
+use Rattle.workspace.specs.Map.{atSent}
+use Rattle.workspace.proofs.Lent.{Lent}
 
 -- a part right behind what stands at the front
 next : (r x s : List ℕ) (b : ℕ) → b ≡ length r → place 0 r (place b x s) ≡ place 0 (r ++ x) s
@@ -114,17 +110,17 @@ module _ (m salt x : List ℕ) (i : ℕ → ℕ) where
     signature-whole c1 c2 a1 nonce s ls l1 l2 la ln l =
         whole (salt ++ (c1 ++ (c2 ++ a1))) nonce s (simp length-append (omega arith)) ln l ∙ simp append-assoc
 
--- the opening of repetition e: path came back from the part that was lent, k bytes of it, and d is n bytes of the workspace
-pub opening-written : (m salt x : List ℕ) (i : ℕ → ℕ) (e : ℕ) (w s path out s2 s3 : List ℕ) (k n : ℕ) → e < 17 → length s ≡ 3484 → k ≡ 128 → n ≡ 12
-    → Openable m salt x w
+-- the opening of repetition e: the path's room p came back as path, and d is what the workspace has of the correction
+pub opening-written : (m salt x : List ℕ) (i : ℕ → ℕ) (e : ℕ) (w s p path s1 out s2 d s3 : List ℕ) → e < 17 → Openable m salt x w
+    → Lent (556 + 128 * e) 128 s p path s1
     → path ≡ pathAt m salt x e (i e)
     → out ≡ lscom m salt x e (i e)
-    → length path ≡ length (part (556 + 128 * e) k s)
-    → s2 ≡ place (2732 + 32 * e) out (back (556 + 128 * e) k path s)
-    → s3 ≡ place (3276 + 12 * e) (part (42145 + 12 * e) n w) s2
+    → s2 ≡ place (2732 + 32 * e) out s1
+    → d ≡ part (atSent + 12 * e) 12 w
+    → s3 ≡ place (3276 + 12 * e) d s2
     → s3 ≡ openingAt m salt x i e s
 unfolding openingAt
-opening-written m salt x i e w s path out s2 s3 k n he hs ek en g ep eo lp e2 e3 =
+opening-written m salt x i e w s p path s1 out s2 d s3 he g l ep eo e2 ed e3 =
     e3
-    ∙ ap₂ (place (3276 + 12 * e)) (ap (λ (j : ℕ). part (42145 + 12 * e) j w) en ∙ g .sents e he)
-    (e2 ∙ ap₂ (place (2732 + 32 * e)) eo (back-place (556 + 128 * e) k (556 + 128 * e) 128 refl ek path s (omega arith) lp ∙ ap (λ (l : List ℕ). place (556 + 128 * e) l s) ep))
+    ∙ ap₂ (place (3276 + 12 * e)) (ed ∙ g .sents e he)
+    (e2 ∙ ap₂ (place (2732 + 32 * e)) eo (l .after ∙ ap (λ (t : List ℕ). place (556 + 128 * e) t s) ep))

@@ -1,23 +1,21 @@
 -- From the committed lines to the result lines: where ComputePAlpha (algorithm 6) starts, and what it ends with. Assumes nothing.
-use mathlib.Core.Path.{_≡_, refl, sym, ap, ap₂, subst, _∙_}
+use mathlib.Core.Path.{_≡_, sym, ap, subst, _∙_}
 use mathlib.Core.Bool.{Bool}
-use mathlib.Core.List.{List, []}
-use Prim.Native.Nat.{ℕ, suc, _+_, _*_, _/_, _%_, _<_, _≤_}
+use mathlib.Core.List.{List}
+use Prim.Native.Nat.{ℕ, _+_, _*_, _/_, _%_, _<_, _≤_}
 use native.Mathlib.Omega.{arith}
 use lib.ListN.{length}
-use Rattle.octets.specs.Xor.{_⊕_}
 use Rattle.octets.specs.Lists.{vec, tab, part, joined, alike}
 use Rattle.octets.specs.Place.{place}
 use Rattle.octets.proofs.Tab.{length-tab, vec-tab}
-use Rattle.octets.proofs.Part.{length-part, vec-part, length-joined}
+use Rattle.octets.proofs.Part.{vec-part, length-joined}
 use Rattle.octets.proofs.Place.{length-place}
 use Rattle.octets.proofs.Frame.{vec-joined, part-is, part-place}
-use Rattle.field.specs.Vec.{lifted}
-use Rattle.algebra.specs.Line.{batch, none, z0, z1}
+use Rattle.algebra.specs.Line.{batch}
 use Rattle.paper.specs.Keys.{equation, valuesAt, publicOf, solutionOf, mseedEqOf, yOf, satisfied}
 use Rattle.paper.specs.Commit.{u0At, u1At, x0At}
 use Rattle.paper.specs.Alpha.{r3, alpha0At, alpha1At}
-use Rattle.paper.specs.Scheme.{signCom1, signAlpha0, signAlpha1}
+use Rattle.paper.specs.Scheme.{signAlpha0, signAlpha1}
 use Rattle.equations.specs.Lanes.{lane, Masks}
 use Rattle.equations.specs.Put.{Own}
 use Rattle.workspace.specs.Map.{atVectors, atHashes, atSent, atAlpha0, atAlpha1, atRoots}

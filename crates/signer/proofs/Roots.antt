@@ -1,18 +1,18 @@
 -- The root seeds: block e of PRG (0, 0, mseed), written one behind the other. Assumes nothing.
-use mathlib.Core.Path.{_≡_, refl, sym, ap, _∙_}
+use mathlib.Core.Path.{_≡_, sym, ap, _∙_}
 use mathlib.Core.List.{List}
-use Prim.Native.Nat.{ℕ, suc, _+_, _*_, _<_, _≤_}
+use Prim.Native.Nat.{ℕ, _+_, _*_, _<_, _≤_}
 use native.Mathlib.Numerals.{add-one}
 use native.Mathlib.Omega.{arith}
 use lib.ListN.{length}
 use Rattle.octets.specs.Lists.{part, joined, zero16}
 use Rattle.octets.specs.Place.{place}
-use Rattle.octets.proofs.Part.{length-part, part-all, part-joined, length-joined}
+use Rattle.octets.proofs.Part.{part-all, part-joined, length-joined}
 use Rattle.octets.proofs.Place.{length-place, place-none, place-turn}
 use Rattle.octets.proofs.Frame.{part-place, part-part}
 use Rattle.paper.specs.Symmetric.{prg, prgBlock}
 use Rattle.paper.specs.Commit.{rseed}
-use Rattle.paper.proofs.Symmetric.{length-prgBlock, length-prg}
+use Rattle.paper.proofs.Symmetric.{length-prgBlock}
 use Rattle.workspace.specs.Map.{atRoots}
 
 pub roots-none : (m s : List ℕ) → s ≡ place atRoots (joined 0 (rseed m)) s

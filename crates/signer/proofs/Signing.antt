@@ -8,59 +8,55 @@ use native.Mathlib.Omega.{arith}
 use lib.ListN.{length}
 use Rattle.octets.specs.Lists.{part, joined, bytesOf}
 use Rattle.octets.specs.Place.{place}
-use Rattle.octets.proofs.Part.{length-part, part-joined, length-joined, length-bytesOf}
+use Rattle.octets.proofs.Part.{part-joined}
 use Rattle.octets.proofs.Place.{length-place}
 use Rattle.octets.proofs.Frame.{part-place, part-before, part-after, part-add, part-part}
 use Rattle.paper.specs.Symmetric.{hash, forCommitment, forAlphas}
-use Rattle.paper.specs.Keys.{publicOf, solutionOf, satisfied}
+use Rattle.paper.specs.Keys.{publicOf, solutionOf}
 use Rattle.paper.specs.Commit.{com1, com1From, sentAt}
 use Rattle.paper.specs.Alpha.{r3, com2From}
 use Rattle.paper.specs.Challenge.{challenge, hiddenIn, passes, firstBelow}
-use Rattle.paper.specs.Scheme.{transcript, signCom1, signCom2, signAlpha0, signAlpha1, signChallenge, signWith, withNonce, signOf}
+use Rattle.paper.specs.Scheme.{transcript, signCom1, signCom2, signAlpha1, signChallenge, signWith, withNonce, signOf}
 use Rattle.paper.proofs.Keys.{length-solutionOf}
 use Rattle.paper.proofs.Commit.{length-sent}
 use Rattle.paper.proofs.Challenge.{hidden-lt}
-use Rattle.transcript.specs.declared.Search.{Search}
 use Rattle.transcript.specs.declared.Search.the-variants.{Found, Spent}
 use Rattle.transcript.specs.Search.{searchOf}
 use Rattle.workspace.specs.Map.{atCom1, atHashes, atSent, atCom2, atAlpha0, atAlpha1, atRoots}
 use Rattle.signer.specs.State.{Prepared}
 use Rattle.signer.specs.Written.{Openable, openings, signatureOf, Answers, Signed}
-use Rattle.workspace.proofs.Lent.{back, back-place}
+use Rattle.workspace.proofs.Lent.{Lent}
 use Rattle.signer.proofs.Openings.{signature-whole}
 
--- ---- the signature from its parts: the head stands in s1, the nonce n came back, and the openings were written behind
+-- ---- the signature from its parts: the head stands in s1, the nonce's room p came back as n, and the openings were written behind
 
-pub signature-written : (m salt x c1 c2 a1 h b c n s s1 s3 nonce : List ℕ) → length salt ≡ 16 → length c1 ≡ 32 → length c2 ≡ 32 → length a1 ≡ 476
+pub signature-written : (m salt x c1 c2 a1 h b c s s1 p n s2 s3 nonce : List ℕ) → length salt ≡ 16 → length c1 ≡ 32 → length c2 ≡ 32 → length a1 ≡ 476
     → length nonce ≡ 4
     → length s ≡ 3484
     → length m ≡ 16
     → length x ≡ 28
     → s1 ≡ place 0 (salt ++ (c1 ++ (c2 ++ a1))) s
-    → length n ≡ length (part 3480 4 s1)
+    → Lent 3480 4 s1 p n s2
     → n ≡ nonce
-    → c ≡ challenge h (part 3480 4 (back 3480 4 n s1))
+    → c ≡ challenge h (part 3480 4 s2)
     → b ≡ salt
-    → s3 ≡ openings m b x (hiddenIn c) 17 (back 3480 4 n s1)
+    → s3 ≡ openings m b x (hiddenIn c) 17 s2
     → s3 ≡ signatureOf m salt x c1 c2 a1 (challenge h nonce) nonce
 unfolding signatureOf
-signature-written m salt x c1 c2 a1 h b c n s s1 s3 nonce ls l1 l2 la ln l lm lx e1 ek en ec eb e3 =
+signature-written m salt x c1 c2 a1 h b c s s1 p n s2 s3 nonce ls l1 l2 la ln l lm lx e1 k en ec eb e3 =
     e3
-    ∙ ap₂ (λ (t : List ℕ) (u : List ℕ). openings m t x (hiddenIn u) 17 (back 3480 4 n s1)) eb sampled
+    ∙ ap₂ (λ (t : List ℕ) (u : List ℕ). openings m t x (hiddenIn u) 17 s2) eb sampled
     ∙ ap (openings m salt x (hiddenIn (challenge h nonce)) 17) placed
     ∙ signature-whole m salt x (hiddenIn (challenge h nonce)) lm lx (hidden-lt h nonce) c1 c2 a1 nonce s ls l1 l2 la ln l
   where
     long : length s1 ≡ 3484
     long = ap length e1 ∙ length-place 0 _ s ∙ l
 
-    put : back 3480 4 n s1 ≡ place 3480 n s1
-    put = back-place 3480 4 3480 4 refl refl n s1 (omega (arith, long)) ek
-
-    placed : back 3480 4 n s1 ≡ place 3480 nonce (place 0 (salt ++ (c1 ++ (c2 ++ a1))) s)
-    placed = put ∙ ap₂ (place 3480) en e1
+    placed : s2 ≡ place 3480 nonce (place 0 (salt ++ (c1 ++ (c2 ++ a1))) s)
+    placed = k .after ∙ ap₂ (place 3480) en e1
 
     sampled : c ≡ challenge h nonce
-    sampled = ec ∙ ap (challenge h) (ap (part 3480 4) put ∙ part-place 3480 4 n s1 (ap length en ∙ ln) (omega (arith, long)) ∙ en)
+    sampled = ec ∙ ap (challenge h) (ap (part 3480 4) (k .after) ∙ part-place 3480 4 n s1 (k .size) (omega (arith, long)) ∙ en)
 
 -- ---- the workspace with the selectors a and b of the two commitments
 

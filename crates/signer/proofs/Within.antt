@@ -1,10 +1,10 @@
 -- A buffer that changes within a part of it alone. Assumes nothing.
-use mathlib.Core.Path.{_≡_, refl, ap, _∙_}
+use mathlib.Core.Path.{_≡_, refl, _∙_}
 use mathlib.Core.List.{List}
-use Prim.Native.Nat.{ℕ, _+_, _<_, _≤_}
+use Prim.Native.Nat.{ℕ, _+_, _≤_}
 use native.Mathlib.Omega.{arith}
 use lib.ListN.{length}
-use Rattle.octets.specs.Lists.{vec, part}
+use Rattle.octets.specs.Lists.{part}
 use Rattle.octets.specs.Place.{place}
 use Rattle.octets.proofs.Place.{length-place}
 use Rattle.octets.proofs.Frame.{vec-place-before, vec-place-after, part-ext}

@@ -25,7 +25,8 @@ fn put_root(t: &[u32; 1024], work: &mut [u8], m: Cols, e: usize)
     requires { ⌜ (length (now work) ≡ 65536) × (part 0 18304 (now work) ≡ plainKeys) × (e < 17) ⌝ }
     ensures { λ _. ⌜ now (work .exit) ≡ place (atRoots + 16 * e) (rseed (blockOf m) e) (now (work .entry)) ⌝ }
 {
-    let r = seeds::plain_block(t, &work[0..18304], m, e);
+    let v = workspace::at_vectors();
+    let r = seeds::plain_block(t, &work[..v], m, e);
     aes::store(work, workspace::ROOTS + 16 * e, r);
 }
 
@@ -91,7 +92,8 @@ fn commit(t: &[u32; 1024], x: &[u8], salt: &[u8], mseed: &[u8], work: &mut [u8])
     ensures keys { λ _. ⌜ part 0 18304 (now (work .exit)) ≡ plainKeys ⌝ }
     ensures adds { λ _. ⌜ Committed (now (mseed .entry)) (now (salt .entry)) (now (x .entry)) 17 (now (work .exit)) ⌝ }
 {
-    seeds::plain_keys(t, &mut work[0..18304]);
+    let v = workspace::at_vectors();
+    seeds::plain_keys(t, &mut work[..v]);
     put_roots(t, work, aes::load(mseed, 0));
     commit_all(t, x, aes::load(salt, 0), work);
 }
@@ -105,8 +107,8 @@ fn result_one(t: &[u32; 1024], pk: &[u8], work: &mut [u8], i: usize) -> u8
     ensures rest { λ _. ⌜ Within 42401 952 (now (work .entry)) (now (work .exit)) ⌝ }
     ensures adds { λ r. ⌜ Adds (now (pk .entry)) i (now (work .entry)) r (now (work .exit)) ⌝ }
 {
-    let q = equations::expansion::expand(t, &work[0..18304], &pk[0..32], i);
     let v = workspace::at_vectors();
+    let q = equations::expansion::expand(t, &work[..v], &pk[0..32], i);
     let z = equations::on_lines(&work[v..v + 10944], &q);
     let z0 = z.z0;
     let z1 = z.z1;

@@ -1,5 +1,5 @@
--- A part of a buffer that was lent and came back. The code names it by a place a and a length k, which are o and n. Assumes nothing.
-use mathlib.Core.Path.{_≡_, sym, ap, ap₂, _∙_}
+-- A part of a buffer that was lent and came back. The code names it by a place a of its own, which is o. Assumes nothing.
+use mathlib.Core.Path.{_≡_, sym, ap, _∙_}
 use mathlib.Core.List.{List, _++_}
 use Prim.Native.Nat.{ℕ, _+_, _-_, _≤_}
 use native.Mathlib.Omega.{arith}
@@ -8,10 +8,6 @@ use Rattle.octets.specs.Lists.{part}
 use Rattle.octets.specs.Place.{place}
 use Rattle.octets.proofs.Part.{length-part}
 use Rattle.octets.proofs.Place.{length-place, place-back}
-
--- s with y, which came back, in the place of the k bytes from a on
-abbrev pub back : ℕ → ℕ → List ℕ → List ℕ → List ℕ
-back a k y s = take a s ++ (y ++ drop k (drop a s))
 
 -- of s the n bytes p from o on were lent and came back as y: s is t then
 pub record Lent (o n : ℕ) (s p y t : List ℕ) : Type 0 where
@@ -22,34 +18,45 @@ pub record Lent (o n : ℕ) (s p y t : List ℕ) : Type 0 where
 pub length-after : {o n : ℕ} {s p y t : List ℕ} → Lent o n s p y t → length t ≡ length s
 length-after {o} {s = s} {y = y} l = ap length (l .after) ∙ length-place o y s
 
--- how long the code's slice from a to a + n is
-pub span : (a n : ℕ) → a + n - a ≡ n
+-- ---- the slice from a to a + n
+
+abbrev pub slice : ℕ → ℕ → List ℕ → List ℕ
+slice a n s = take (a + n - a) (drop a s)
+
+span : (a n : ℕ) → a + n - a ≡ n
 span a n = omega arith
 
--- the slice itself
-pub slice-is : (a n : ℕ) (s : List ℕ) → take (a + n - a) (drop a s) ≡ part a n s
+pub slice-is : (a n : ℕ) (s : List ℕ) → slice a n s ≡ part a n s
 unfolding part
 slice-is a n s = ap (λ (k : ℕ). take k (drop a s)) (span a n)
 
-pub length-slice : (a n : ℕ) (s : List ℕ) → a + n ≤ length s → length (take (a + n - a) (drop a s)) ≡ n
+pub length-slice : (a n : ℕ) (s : List ℕ) → a + n ≤ length s → length (slice a n s) ≡ n
 length-slice a n s h = ap length (slice-is a n s) ∙ length-part a n s h
 
-module _ (a k o n : ℕ) (ea : a ≡ o) (ek : k ≡ n) where
-  pub part-at : (s : List ℕ) → part a k s ≡ part o n s
-  part-at s = ap₂ (λ (i : ℕ) (j : ℕ). part i j s) ea ek
+module _ (a o n : ℕ) (ea : a ≡ o) where
+  pub slice-at : (s : List ℕ) → slice a n s ≡ part o n s
+  slice-at s = slice-is a n s ∙ ap (λ (i : ℕ). part i n s) ea
 
-  pub length-lend : (s : List ℕ) → o + n ≤ length s → length (part a k s) ≡ n
-  length-lend s h = ap length (part-at s) ∙ length-part o n s h
+  pub lent : (y s : List ℕ) → o + n ≤ length s → length y ≡ length (slice a n s)
+      → Lent o n s (slice a n s) y (take a s ++ (y ++ drop (a + n - a) (drop a s)))
+  lent y s h ly = record {
+    was = slice-at s;
+    size = long;
+    after = place-back a (a + n - a) y s (long ∙ sym (span a n)) (omega (arith, ea)) ∙ ap (λ (i : ℕ). place i y s) ea;
+  }
+    where
+      long : length y ≡ n
+      long = ly ∙ length-slice a n s (omega (arith, ea))
 
-  module _ (y s : List ℕ) (h : o + n ≤ length s) (ly : length y ≡ length (part a k s)) where
-    pub length-lent : length y ≡ n
-    length-lent = ly ∙ length-lend s h
+-- ---- the front, up to a, which is n
 
-    pub back-place : back a k y s ≡ place o y s
-    back-place = place-back a k y s (length-lent ∙ sym ek) (omega (arith, ea, ek)) ∙ ap (λ (i : ℕ). place i y s) ea
-
-    pub length-back : length (back a k y s) ≡ length s
-    length-back = ap length back-place ∙ length-place o y s
-
-    pub lent : Lent o n s (part a k s) y (back a k y s)
-    lent = record { was = part-at s; size = length-lent; after = back-place }
+pub lent-front : (a n : ℕ) → a ≡ n → (y s : List ℕ) → n ≤ length s → length y ≡ length (take a s) → Lent 0 n s (take a s) y (y ++ drop a s)
+unfolding part
+lent-front a n ea y s h ly = record {
+  was = ap (λ (k : ℕ). take k s) ea;
+  size = long;
+  after = place-back 0 a y s (long ∙ sym ea) (omega (arith, ea));
+}
+  where
+    long : length y ≡ n
+    long = ly ∙ ap (λ (k : ℕ). length (take k s)) ea ∙ length-part 0 n s (omega arith)

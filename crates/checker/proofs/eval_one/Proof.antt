@@ -6,8 +6,9 @@ use Rattle.octets.specs.Lists.{part}
 use Rattle.paper.specs.Alpha.{r3}
 use Rattle.paper.specs.Scheme.{sigSalt, sigAlpha1, sigPaths, sigOuts, sigSent}
 use Rattle.octets.proofs.Place.{length-place}
-use Rattle.workspace.proofs.Lent.{span, length-slice}
-use Rattle.checker.proofs.Lent.{length-path, length-out, length-sent, length-alpha1, path-is, out-is, sent-is, alpha1-is, length-tree, vectors-lent, length-vectors, evaluated-code}
+use Rattle.workspace.specs.Map.{atVectors, atTree}
+use Rattle.workspace.proofs.Lent.{length-after, length-slice, lent}
+use Rattle.checker.proofs.Lent.{length-path, length-out, length-sent, length-alpha1, path-is, out-is, sent-is, alpha1-is, length-vectors, evaluated-code}
 use borrow.Author.Needs.{needs}
 use Rattle.checker.proofs.eval_one.Statement.{statement}
 use Rattle.checker.proofs.eval_one.Tie as tie
@@ -117,7 +118,8 @@ part-put-values-end c =
     let a = c .before .before .before .before .before .before .before .before .before .before .at-tree in
     let k = c .before .before .before .before .before .eval in
     let b = c .at-vectors in
-    omega (arith, b .ensures, length-tree _ _ (a .ensures) (span (a .result) 12289) (s .args .work .now) (k .last .1 .1 .1 .1 .1 .1 .1 .0) (s .pre .1 .1) (k .kept .1 .1 .1 .1 .1 .1 .1 .0))
+    let f = lent (a .result) atTree 12289 (a .ensures) (k .last .1 .1 .1 .1 .1 .1 .1 .0) (s .args .work .now) (omega (arith, s .pre)) (k .kept .1 .1 .1 .1 .1 .1 .1 .0) in
+    omega (arith, b .ensures, s .pre, length-after f)
 
 put-values-requires : tie.Need-put-values-requires
 unfolding part
@@ -126,7 +128,8 @@ put-values-requires c κs =
     let a = c .before .before .before .before .before .before .before .before .before .before .before .at-tree in
     let k = c .before .before .before .before .before .before .eval in
     let b = c .before .at-vectors in
-    (vectors-lent _ _ (a .ensures) (span (a .result) 12289) (s .args .work .now) (k .last .1 .1 .1 .1 .1 .1 .1 .0) (s .pre .1 .1) (k .kept .1 .1 .1 .1 .1 .1 .1 .0) _ _ (b .ensures) (span (b .result) 10944), s .pre .1 .2)
+    let f = lent (a .result) atTree 12289 (a .ensures) (k .last .1 .1 .1 .1 .1 .1 .1 .0) (s .args .work .now) (omega (arith, s .pre)) (k .kept .1 .1 .1 .1 .1 .1 .1 .0) in
+    (length-slice (b .result) 10944 _ (omega (arith, b .ensures, s .pre, length-after f)), s .pre .1 .2)
 
 mul-b : tie.Need-mul-b
 mul-b c = omega (arith, c .before .before .before .before .before .before .before .before .before .before .before .before .before .before .before .before .before .before .pre)
@@ -154,7 +157,9 @@ keep-values-requires c κs =
     let k = c .before .before .before .before .before .before .before .before .before .before .before .before .before .eval in
     let b = c .before .before .before .before .before .before .before .before .at-vectors in
     let p = c .before .before .before .before .before .before .put-values in
-    (length-vectors _ _ (a .ensures) (span (a .result) 12289) (s .args .work .now) (k .last .1 .1 .1 .1 .1 .1 .1 .0) (s .pre .1 .1) (k .kept .1 .1 .1 .1 .1 .1 .1 .0) _ _ (b .ensures) (span (b .result) 10944) (p .last .0) (p .kept .0), s .pre .1 .2, length-alpha1 (s .args .sig .now) (s .args .e) (s .pre .1 .0) (s .pre .1 .2))
+    let f = lent (a .result) atTree 12289 (a .ensures) (k .last .1 .1 .1 .1 .1 .1 .1 .0) (s .args .work .now) (omega (arith, s .pre)) (k .kept .1 .1 .1 .1 .1 .1 .1 .0) in
+    let g = lent (b .result) atVectors 10944 (b .ensures) (p .last .0) _ (omega (arith, s .pre, length-after f)) (p .kept .0) in
+    (length-vectors _ _ _ _ _ _ _ (s .pre .1 .1) f g, s .pre .1 .2, length-alpha1 (s .args .sig .now) (s .args .e) (s .pre .1 .0) (s .pre .1 .2))
 
 same-length : tie.Need-same-length
 unfolding part
@@ -164,16 +169,16 @@ same-length c =
     let k = c .before .before .before .before .before .before .before .before .before .before .before .before .before .before .before .before .eval in
     let b = c .before .before .before .before .before .before .before .before .before .before .before .at-vectors in
     let p = c .before .before .before .before .before .before .before .before .before .put-values in
-    ap length (c .before .before .keep-values .ensures) ∙ length-place _ _ _ ∙ length-place _ _ _
-    ∙ length-vectors _ _ (a .ensures) (span (a .result) 12289) (s .args .work .now) (k .last .1 .1 .1 .1 .1 .1 .1 .0) (s .pre .1 .1) (k .kept .1 .1 .1 .1 .1 .1 .1 .0) _ _ (b .ensures) (span (b .result) 10944) (p .last .0) (p .kept .0)
-    ∙ sym (s .pre .1 .1)
+    let f = lent (a .result) atTree 12289 (a .ensures) (k .last .1 .1 .1 .1 .1 .1 .1 .0) (s .args .work .now) (omega (arith, s .pre)) (k .kept .1 .1 .1 .1 .1 .1 .1 .0) in
+    let g = lent (b .result) atVectors 10944 (b .ensures) (p .last .0) _ (omega (arith, s .pre, length-after f)) (p .kept .0) in
+    ap length (c .before .before .keep-values .ensures) ∙ length-place _ _ _ ∙ length-place _ _ _ ∙ length-vectors _ _ _ _ _ _ _ (s .pre .1 .1) f g ∙ sym (s .pre .1 .1)
 
 returns : tie.Need-returns
 unfolding part
 returns c =
     let s = c .before .before .before .before .before .before .before .before .before .before .before .before .before .before .before .before .before .before .before .before .before .before .before .before .before in
     let w = s .args .work .now in
-    let g = s .args .sig .now in
+    let z = s .args .sig .now in
     let e = s .args .e in
     let h = s .pre .1 in
     let salt = c .before .before .before .before .before .before .before .before .before .before .before .before .before .before .before .before .before .before .before .before .before .before .load .ensures in
@@ -182,10 +187,12 @@ returns c =
     let b = c .before .before .before .before .before .before .before .before .before .before .before .at-vectors in
     let r = c .before .before .before .before .before .before .before .before .before .before .before .before .before .point .ensures in
     let p = c .before .before .before .before .before .before .before .before .before .put-values in
+    let f = lent (a .result) atTree 12289 (a .ensures) (k .last .1 .1 .1 .1 .1 .1 .1 .0) (s .args .work .now) (omega (arith, s .pre)) (k .kept .1 .1 .1 .1 .1 .1 .1 .0) in
+    let g = lent (b .result) atVectors 10944 (b .ensures) (p .last .0) _ (omega (arith, s .pre, length-after f)) (p .kept .0) in
     λ i q o.
-    let v = k .ensures (sigPaths r3 g) (sigOuts r3 g) (sigSent r3 g) (path-is g e (h .0) (h .2)) (out-is g e (h .0) (h .2)) (sent-is g e (h .0) (h .2)) in
-    evaluated-code _ _ (a .ensures) (span (a .result) 12289) w (k .last .1 .1 .1 .1 .1 .1 .1 .0) (h .1) (k .kept .1 .1 .1 .1 .1 .1 .1 .0) _ _ (b .ensures) (span (b .result) 10944) (p .last .0) (p .kept .0) e _ _ _ _ _ _ (h .2) (c .before .before .keep-values .ensures) (p .ensures)
-    (sigSalt r3 g) (sigPaths r3 g) (sigOuts r3 g) (sigSent r3 g) (sigAlpha1 r3 g) i _ (s .args .hidden) salt q (alpha1-is g e (h .0) (h .2)) r (v .x-is) (v .hash-is) (v .u-is) o
+    let v = k .ensures (sigPaths r3 z) (sigOuts r3 z) (sigSent r3 z) (path-is z e (h .0) (h .2)) (out-is z e (h .0) (h .2)) (sent-is z e (h .0) (h .2)) in
+    evaluated-code w _ _ _ _ _ _ (h .1) f g e _ _ _ _ _ _ (h .2) (c .before .before .keep-values .ensures) (p .ensures)
+    (sigSalt r3 z) (sigPaths r3 z) (sigOuts r3 z) (sigSent r3 z) (sigAlpha1 r3 z) i _ (s .args .hidden) salt q (alpha1-is z e (h .0) (h .2)) r (v .x-is) (v .hash-is) (v .u-is) o
 
 pub eval-one-spec : {M : Type 1} → statement M
 eval-one-spec =

@@ -5,7 +5,8 @@ use lib.ListN.{length, length-take}
 use Rattle.octets.specs.Lists.{part}
 use Rattle.octets.proofs.Part.{length-part}
 use Rattle.octets.proofs.Place.{length-place}
-use Rattle.workspace.proofs.Lent.{span}
+use Rattle.workspace.specs.Map.{atVectors}
+use Rattle.workspace.proofs.Lent.{length-after, lent, lent-front}
 use Rattle.checker.proofs.Lent.{length-masks, keys-stand, recompute-same}
 use borrow.Author.Needs.{needs}
 use Rattle.checker.proofs.recompute.Statement.{statement}
@@ -46,7 +47,9 @@ recompute-all-requires c κs =
     let v = c .before .before .before .before .before .before .before .before .before .at-vectors in
     let k = c .before .before .before .before .before .before .before .plain-keys in
     let y = c .before .before .before .spread in
-    (s .pre .0, ((s .pre .1 .0, length-masks _ _ (v .ensures) (span (v .result) 10944) w (k .last .1 .0) (y .last .0) (s .pre .1 .2) (k .kept .1 .0) (y .kept .0)), keys-stand _ _ (v .ensures) (span (v .result) 10944) w (k .last .1 .0) (y .last .0) (s .pre .1 .2) (k .kept .1 .0) (y .kept .0) (k .ensures)))
+    let f = lent-front (v .result) 18304 (v .ensures) (k .last .1 .0) w (omega (arith, s .pre)) (k .kept .1 .0) in
+    let g = lent (v .result) atVectors 10944 (v .ensures) (y .last .0) _ (omega (arith, s .pre, length-after f)) (y .kept .0) in
+    (s .pre .0, ((s .pre .1 .0, length-masks w _ _ _ _ _ _ (s .pre .1 .2) f g), keys-stand w _ _ _ _ _ _ (s .pre .1 .2) f g (k .ensures)))
 
 sub-put : tie.Need-sub-put
 sub-put c = search needs
@@ -65,8 +68,10 @@ put-requires c κs =
     let v = c .before .before .before .before .before .before .before .before .before .before .before .before .before .before .at-vectors in
     let k = c .before .before .before .before .before .before .before .before .before .before .before .before .plain-keys in
     let y = c .before .before .before .before .before .before .before .before .spread in
+    let f = lent-front (v .result) 18304 (v .ensures) (k .last .1 .0) w (omega (arith, s .pre)) (k .kept .1 .0) in
+    let g = lent (v .result) atVectors 10944 (v .ensures) (y .last .0) _ (omega (arith, s .pre, length-after f)) (y .kept .0) in
     let u = c .before .before .before .before .recompute-all in
-    let lu = u .kept .1 .1 .0 ∙ length-masks _ _ (v .ensures) (span (v .result) 10944) w (k .last .1 .0) (y .last .0) (s .pre .1 .2) (k .kept .1 .0) (y .kept .0) in
+    let lu = u .kept .1 .1 .0 ∙ length-masks w _ _ _ _ _ _ (s .pre .1 .2) f g in
     omega (arith, lu, length-part 80 476 (s .args .sig .now) (omega (arith, s .pre)))
 
 second-commitment-requires : tie.Need-second-commitment-requires
@@ -77,8 +82,10 @@ second-commitment-requires c κs =
     let v = c .before .before .before .before .before .before .before .before .before .before .before .before .before .before .before .before .before .before .at-vectors in
     let k = c .before .before .before .before .before .before .before .before .before .before .before .before .before .before .before .before .plain-keys in
     let y = c .before .before .before .before .before .before .before .before .before .before .before .before .spread in
+    let f = lent-front (v .result) 18304 (v .ensures) (k .last .1 .0) w (omega (arith, s .pre)) (k .kept .1 .0) in
+    let g = lent (v .result) atVectors 10944 (v .ensures) (y .last .0) _ (omega (arith, s .pre, length-after f)) (y .kept .0) in
     let u = c .before .before .before .before .before .before .before .before .recompute-all in
-    let lu = u .kept .1 .1 .0 ∙ length-masks _ _ (v .ensures) (span (v .result) 10944) w (k .last .1 .0) (y .last .0) (s .pre .1 .2) (k .kept .1 .0) (y .kept .0) in
+    let lu = u .kept .1 .1 .0 ∙ length-masks w _ _ _ _ _ _ (s .pre .1 .2) f g in
     ap length (c .before .before .before .put .ensures) ∙ length-place _ _ _ ∙ lu
 
 slice-aggregate-same : tie.Need-slice-aggregate-same
@@ -104,8 +111,10 @@ same-length c =
     let v = c .before .before .before .before .before .before .before .before .before .before .before .before .before .before .before .before .before .before .before .before .before .before .before .before .at-vectors in
     let k = c .before .before .before .before .before .before .before .before .before .before .before .before .before .before .before .before .before .before .before .before .before .before .plain-keys in
     let y = c .before .before .before .before .before .before .before .before .before .before .before .before .before .before .before .before .before .before .spread in
+    let f = lent-front (v .result) 18304 (v .ensures) (k .last .1 .0) w (omega (arith, s .pre)) (k .kept .1 .0) in
+    let g = lent (v .result) atVectors 10944 (v .ensures) (y .last .0) _ (omega (arith, s .pre, length-after f)) (y .kept .0) in
     let u = c .before .before .before .before .before .before .before .before .before .before .before .before .before .before .recompute-all in
-    let lu = u .kept .1 .1 .0 ∙ length-masks _ _ (v .ensures) (span (v .result) 10944) w (k .last .1 .0) (y .last .0) (s .pre .1 .2) (k .kept .1 .0) (y .kept .0) in
+    let lu = u .kept .1 .1 .0 ∙ length-masks w _ _ _ _ _ _ (s .pre .1 .2) f g in
     let p = c .before .before .before .before .before .before .before .before .before .put .ensures in
     ap length (c .before .before .before .before .before .second-commitment .ensures .1) ∙ length-place _ _ _ ∙ ap length p ∙ length-place _ _ _ ∙ lu ∙ sym (s .pre .1 .2)
 
@@ -117,12 +126,14 @@ returns c =
     let v = c .before .before .before .before .before .before .before .before .before .before .before .before .before .before .before .before .before .before .before .before .before .before .before .before .at-vectors in
     let k = c .before .before .before .before .before .before .before .before .before .before .before .before .before .before .before .before .before .before .before .before .before .before .plain-keys in
     let y = c .before .before .before .before .before .before .before .before .before .before .before .before .before .before .before .before .before .before .spread in
+    let f = lent-front (v .result) 18304 (v .ensures) (k .last .1 .0) w (omega (arith, s .pre)) (k .kept .1 .0) in
+    let g = lent (v .result) atVectors 10944 (v .ensures) (y .last .0) _ (omega (arith, s .pre, length-after f)) (y .kept .0) in
     let u = c .before .before .before .before .before .before .before .before .before .before .before .before .before .before .recompute-all in
-    let lu = u .kept .1 .1 .0 ∙ length-masks _ _ (v .ensures) (span (v .result) 10944) w (k .last .1 .0) (y .last .0) (s .pre .1 .2) (k .kept .1 .0) (y .kept .0) in
+    let lu = u .kept .1 .1 .0 ∙ length-masks w _ _ _ _ _ _ (s .pre .1 .2) f g in
     let p = c .before .before .before .before .before .before .before .before .before .put .ensures in
     let b = c .before .before .before .before .before .second-commitment .ensures .0 in
-    λ i g.
-    recompute-same _ _ (v .ensures) (span (v .result) 10944) w (k .last .1 .0) (y .last .0) (s .pre .1 .2) (k .kept .1 .0) (y .kept .0) (s .args .pk .now) (s .args .sig .now) i (s .pre .1 .1) g (y .ensures) _ _ _ _ lu (u .ensures) p b (c .same .ensures)
+    λ i o.
+    recompute-same w _ _ _ _ _ _ (s .pre .1 .2) f g (s .args .pk .now) (s .args .sig .now) i (s .pre .1 .1) o (y .ensures) _ _ _ _ lu (u .ensures) p b (c .same .ensures)
 
 pub recompute-spec : {M : Type 1} → statement M
 recompute-spec =

@@ -1,11 +1,13 @@
 -- `checker::recompute_one` meets its contract. Assumes nothing.
-use mathlib.Core.Path.{refl, _∙_}
+use mathlib.Core.Path.{ap, _∙_}
+use Prim.Native.Nat.{ℕ}
 use native.Mathlib.Omega.{arith}
 use lib.ListN.{length-take}
 use Rattle.octets.specs.Lists.{part}
 use Rattle.octets.proofs.Part.{length-part}
 use Rattle.paper.specs.Keys.{mseedEqOf}
-use Rattle.workspace.proofs.Lent.{span, length-slice, part-at}
+use Rattle.workspace.specs.Map.{atVectors, atAlpha0}
+use Rattle.workspace.proofs.Lent.{length-slice, slice-at, lent}
 use Rattle.checker.proofs.Lent.{recomputed-keys, recomputed-one}
 use borrow.Author.Needs.{needs}
 use Rattle.checker.proofs.recompute_one.Statement.{statement}
@@ -34,7 +36,7 @@ unfolding part
 expand-requires c κs =
     let s = c .before .before .before .before .before in
     let b = c .before .before .at-vectors in
-    (s .pre .0, (part-at 0 _ 0 18304 refl (b .ensures) (s .args .work .now) ∙ s .pre .1 .1, (length-part 0 32 (s .args .pk .now) (omega (arith, s .pre .1 .0)), s .pre .1 .0 .2)))
+    (s .pre .0, (ap (λ (k : ℕ). part 0 k (s .args .work .now)) (b .ensures) ∙ s .pre .1 .1, (length-part 0 32 (s .args .pk .now) (omega (arith, s .pre .1 .0)), s .pre .1 .0 .2)))
 
 add-at-points : tie.Need-add-at-points
 add-at-points c = search needs
@@ -99,9 +101,10 @@ returns c =
     let z = c .before .before .before .before .before .at-points .ensures in
     let b = c .before .before .before .before .before .before .before .before .before .before .before .before .before .at-vectors in
     let a = c .before .before .before .before .at-alpha0 in
-    let y = c .before .before .add-column in (
-      recomputed-keys _ _ (a .ensures) (span (a .result) 476) w (y .last .0) (h .1) (y .kept .0) (s .pre .1 .1),
-      recomputed-one _ _ (a .ensures) (span (a .result) 476) w (y .last .0) (h .1) (y .kept .0) _ _ (b .ensures) (span (b .result) 10944) (s .args .pk .now) _ _ (s .args .i) (h .2) q z (y .ensures),
+    let y = c .before .before .add-column in
+    let f = lent (a .result) atAlpha0 476 (a .ensures) (y .last .0) w (omega (arith, h)) (y .kept .0) in (
+      recomputed-keys w _ _ _ (h .1) f (s .pre .1 .1),
+      recomputed-one w _ _ _ (h .1) f (s .args .pk .now) _ _ _ (s .args .i) (h .2) q (slice-at (b .result) atVectors 10944 (b .ensures) w) z (y .ensures),
     )
 
 pub recompute-one-spec : {M : Type 1} → statement M

@@ -1,6 +1,6 @@
 -- `files::store` meets its contract. Assumes nothing.
 use mathlib.Core.Path.{refl}
-use mathlib.Core.Logic.{inl, inr}
+use mathlib.Core.Logic.{inr}
 use borrow.Author.Needs.{needs}
 use Rattle.files.proofs.store.Statement.{statement}
 use Rattle.files.proofs.store.Tie as tie

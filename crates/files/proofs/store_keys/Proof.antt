@@ -1,6 +1,6 @@
 -- `files::store_keys` meets its contract. Assumes nothing.
 use mathlib.Core.Path.{refl}
-use mathlib.Core.Logic.{inl, inr}
+use mathlib.Core.Logic.{inr}
 use borrow.Author.Needs.{needs}
 use Rattle.files.proofs.store_keys.Statement.{statement}
 use Rattle.files.proofs.store_keys.Tie as tie

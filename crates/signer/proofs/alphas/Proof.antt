@@ -1,12 +1,11 @@
 -- `signer::alphas` meets its contract. Assumes nothing.
-use mathlib.Core.Path.{_≡_, sym, _∙_}
+use mathlib.Core.Path.{sym, _∙_}
 use native.Mathlib.Omega.{arith}
-use lib.ListN.{length}
 use Rattle.octets.specs.Lists.{part}
 use Rattle.octets.proofs.Part.{length-part}
 use Rattle.paper.specs.Keys.{publicOf, solutionOf}
 use Rattle.workspace.specs.Map.{atVectors}
-use Rattle.workspace.proofs.Lent.{length-after, span, length-lend, lent}
+use Rattle.workspace.proofs.Lent.{length-after, length-slice, lent}
 use Rattle.signer.proofs.ResultLines.{length-both, keys-stay, all-prepared}
 use borrow.Author.Needs.{needs}
 use Rattle.signer.proofs.alphas.Statement.{statement}
@@ -42,7 +41,7 @@ put-solution-requires c κs =
     let s = c .before .before .before .before .before in
     let v = c .before .before .at-vectors in (
       length-part 60 28 (s .args .sk .now) (omega (arith, s .pre)),
-      length-lend (v .result) _ atVectors 10944 (v .ensures) (span (v .result) 10944) (s .args .work .now) (omega (arith, s .pre)),
+      length-slice (v .result) 10944 (s .args .work .now) (omega (arith, v .ensures, s .pre)),
     )
 
 add-spread : tie.Need-add-spread
@@ -55,22 +54,20 @@ part-spread-start : tie.Need-part-spread-start
 part-spread-start c = search needs
 
 part-spread-end : tie.Need-part-spread-end
-unfolding part
 part-spread-end c =
     let s = c .before .before .before .before .before .before .before .before in
     let v = c .before .before .before .before .before .at-vectors in
     let p = c .before .before .put-solution in
-    let g = lent (v .result) _ atVectors 10944 (v .ensures) (span (v .result) 10944) (p .last .1 .0) (s .args .work .now) (omega (arith, s .pre)) (p .kept .1 .0) in
+    let g = lent (v .result) atVectors 10944 (v .ensures) (p .last .1 .0) (s .args .work .now) (omega (arith, s .pre)) (p .kept .1 .0) in
     omega (arith, v .ensures, s .pre, length-after g)
 
 spread-requires : tie.Need-spread-requires
-unfolding part
 spread-requires c κs =
     let s = c .before .before .before .before .before .before .before .before .before in
     let v = c .before .before .before .before .before .before .at-vectors in
     let p = c .before .before .before .put-solution in
-    let g = lent (v .result) _ atVectors 10944 (v .ensures) (span (v .result) 10944) (p .last .1 .0) (s .args .work .now) (omega (arith, s .pre)) (p .kept .1 .0) in
-    length-lend (v .result) _ atVectors 10944 (v .ensures) (span (v .result) 10944) _ (omega (arith, s .pre, length-after g))
+    let g = lent (v .result) atVectors 10944 (v .ensures) (p .last .1 .0) (s .args .work .now) (omega (arith, s .pre)) (p .kept .1 .0) in
+    length-slice (v .result) 10944 _ (omega (arith, v .ensures, s .pre, length-after g))
 
 sub-results : tie.Need-sub-results
 sub-results c = search needs
@@ -87,11 +84,10 @@ results-requires c κs =
     let s = c .before .before .before .before .before .before .before .before .before .before .before .before .before .before in
     let w = s .args .work .now in
     let v = c .before .before .before .before .before .before .before .before .before .before .before .at-vectors in
-    let n = span (v .result) 10944 in
     let p = c .before .before .before .before .before .before .before .before .put-solution in
     let k = c .before .before .before .before .spread in
-    let g = lent (v .result) _ atVectors 10944 (v .ensures) n (p .last .1 .0) w (omega (arith, s .pre)) (p .kept .1 .0) in
-    let h = lent (v .result) _ atVectors 10944 (v .ensures) n (k .last .0) _ (omega (arith, s .pre, length-after g)) (k .kept .0) in (
+    let g = lent (v .result) atVectors 10944 (v .ensures) (p .last .1 .0) w (omega (arith, s .pre)) (p .kept .1 .0) in
+    let h = lent (v .result) atVectors 10944 (v .ensures) (k .last .0) _ (omega (arith, s .pre, length-after g)) (k .kept .0) in (
       s .pre .0,
       (
         length-part 0 60 (s .args .sk .now) (omega (arith, s .pre)),
@@ -101,16 +97,14 @@ results-requires c κs =
     )
 
 same-length : tie.Need-same-length
-unfolding part
 same-length c =
     let s = c .before .before .before .before .before .before .before .before .before .before .before .before .before .before .before .before .before in
     let w = s .args .work .now in
     let v = c .before .before .before .before .before .before .before .before .before .before .before .before .before .before .at-vectors in
-    let n = span (v .result) 10944 in
     let p = c .before .before .before .before .before .before .before .before .before .before .before .put-solution in
     let k = c .before .before .before .before .before .before .before .spread in
-    let g = lent (v .result) _ atVectors 10944 (v .ensures) n (p .last .1 .0) w (omega (arith, s .pre)) (p .kept .1 .0) in
-    let h = lent (v .result) _ atVectors 10944 (v .ensures) n (k .last .0) _ (omega (arith, s .pre, length-after g)) (k .kept .0) in
+    let g = lent (v .result) atVectors 10944 (v .ensures) (p .last .1 .0) w (omega (arith, s .pre)) (p .kept .1 .0) in
+    let h = lent (v .result) atVectors 10944 (v .ensures) (k .last .0) _ (omega (arith, s .pre, length-after g)) (k .kept .0) in
     c .before .before .results .ensures .0 .size ∙ length-both w _ _ _ _ _ _ (s .pre .1 .1) g h ∙ sym (s .pre .1 .1)
 
 returns : tie.Need-returns
@@ -119,11 +113,10 @@ returns c =
     let s = c .before .before .before .before .before .before .before .before .before .before .before .before .before .before .before .before .before in
     let w = s .args .work .now in
     let v = c .before .before .before .before .before .before .before .before .before .before .before .before .before .before .at-vectors in
-    let n = span (v .result) 10944 in
     let p = c .before .before .before .before .before .before .before .before .before .before .before .put-solution in
     let k = c .before .before .before .before .before .before .before .spread in
-    let g = lent (v .result) _ atVectors 10944 (v .ensures) n (p .last .1 .0) w (omega (arith, s .pre)) (p .kept .1 .0) in
-    let h = lent (v .result) _ atVectors 10944 (v .ensures) n (k .last .0) _ (omega (arith, s .pre, length-after g)) (k .kept .0) in
+    let g = lent (v .result) atVectors 10944 (v .ensures) (p .last .1 .0) w (omega (arith, s .pre)) (p .kept .1 .0) in
+    let h = lent (v .result) atVectors 10944 (v .ensures) (k .last .0) _ (omega (arith, s .pre, length-after g)) (k .kept .0) in
     let r = c .before .before .results .ensures in
     λ salt m d. all-prepared w _ _ _ _ _ _ (s .pre .1 .1) g h (s .args .sk .now) _ _ (p .ensures) (k .ensures) (r .0) (r .1) salt m d
 

@@ -1,6 +1,5 @@
 -- `signer::answer` meets its contract. Assumes nothing.
-use mathlib.Core.Path.{_≡_, sym, _∙_}
-use lib.ListN.{length}
+use mathlib.Core.Path.{sym, _∙_}
 use Rattle.octets.specs.Lists.{part}
 use Rattle.paper.specs.Keys.{publicOf}
 use Rattle.signer.proofs.Signing.{found-answers, spent-answers}

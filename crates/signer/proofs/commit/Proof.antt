@@ -1,40 +1,38 @@
 -- `signer::commit` meets its contract. Assumes nothing.
-use mathlib.Core.Path.{_≡_, refl, subst, _∙_}
+use mathlib.Core.Path.{subst, _∙_}
 use mathlib.Core.List.{List}
 use Prim.Native.Nat.{ℕ}
 use native.Mathlib.Omega.{arith}
-use lib.ListN.{length}
-use Rattle.octets.specs.Lists.{part}
+use lib.ListN.{length-take}
 use Rattle.octets.proofs.Part.{part-all}
 use Rattle.signer.specs.State.{Committed}
-use Rattle.workspace.proofs.Lent.{length-after, lent}
+use Rattle.workspace.proofs.Lent.{length-after, lent-front}
 use Rattle.signer.proofs.Committing.{keys-back, keys-end, committed-start}
 use borrow.Author.Needs.{needs}
 use Rattle.signer.proofs.commit.Statement.{statement}
 use Rattle.signer.proofs.commit.Tie as tie
 
-sub-plain-keys : tie.Need-sub-plain-keys
-sub-plain-keys c = search needs
+at-vectors-requires : tie.Need-at-vectors-requires
+at-vectors-requires c κs = search needs
 
-part-plain-keys-start : tie.Need-part-plain-keys-start
-part-plain-keys-start c = search needs
+slice-relend-prefix-plain-keys : tie.Need-slice-relend-prefix-plain-keys
+slice-relend-prefix-plain-keys c = search needs
 
-part-plain-keys-end : tie.Need-part-plain-keys-end
-part-plain-keys-end c = search needs
+slice-aggregate-plain-keys : tie.Need-slice-aggregate-plain-keys
+slice-aggregate-plain-keys c = simp length-take (omega arith)
 
 plain-keys-requires : tie.Need-plain-keys-requires
-plain-keys-requires c κs = search needs
+plain-keys-requires c κs = (c .before .before .before .before .before .before .pre .0, simp length-take (omega arith))
 
 load-requires : tie.Need-load-requires
 load-requires c κs = search needs
 
 put-roots-requires : tie.Need-put-roots-requires
-unfolding part
 put-roots-requires c κs =
-    let s = c .before .before .before .before .before .before .before .before .before .before in
-    let w = s .args .work .now in
+    let s = c .before .before .before .before .before .before .before .before .before .before .before in
+    let v = c .before .before .before .before .before .before .at-vectors in
     let p = c .before .before .before .before .plain-keys in
-    let g = lent 0 18304 0 18304 refl refl (p .last .1 .0) w (omega (arith, s .pre)) (p .kept .1 .0) in
+    let g = lent-front (v .result) 18304 (v .ensures) (p .last .1 .0) (s .args .work .now) (omega (arith, s .pre)) (p .kept .1 .0) in
     (s .pre .0, (length-after g ∙ s .pre .1 .3, keys-back (s .pre .1 .3) g (p .ensures)))
 
 load-requires-2 : tie.Need-load-requires-2
@@ -47,13 +45,12 @@ same-length : tie.Need-same-length
 same-length c = search needs
 
 returns : tie.Need-returns
-unfolding part
 returns c =
-    let s = c .before .before .before .before .before .before .before .before .before .before .before .before .before .before .before .before .before .before in
+    let s = c .before .before .before .before .before .before .before .before .before .before .before .before .before .before .before .before .before .before .before in
     let a = s .args in
-    let w = a .work .now in
+    let v = c .before .before .before .before .before .before .before .before .before .before .before .before .before .before .at-vectors in
     let p = c .before .before .before .before .before .before .before .before .before .before .before .before .plain-keys in
-    let g = lent 0 18304 0 18304 refl refl (p .last .1 .0) w (omega (arith, s .pre)) (p .kept .1 .0) in
+    let g = lent-front (v .result) 18304 (v .ensures) (p .last .1 .0) (s .args .work .now) (omega (arith, s .pre)) (p .kept .1 .0) in
     let l = length-after g ∙ s .pre .1 .3 in
     let r = c .before .before .before .before .before .before .before .put-roots .ensures in
     let k = c .before .before .commit-all .ensures in
@@ -68,9 +65,9 @@ pub commit-spec : {M : Type 1} → statement M
 commit-spec =
     tie.close
     (tie.spec
-    sub-plain-keys
-    part-plain-keys-start
-    part-plain-keys-end
+    at-vectors-requires
+    slice-relend-prefix-plain-keys
+    slice-aggregate-plain-keys
     plain-keys-requires
     load-requires
     put-roots-requires

@@ -3,7 +3,6 @@ use mathlib.Core.Path.{_≡_, _∙_, subst}
 use mathlib.Core.List.{List}
 use Prim.Native.Nat.{ℕ, _-_, _≤_}
 use native.Mathlib.Omega.{arith}
-use lib.ListN.{length}
 use Rattle.aes.specs.Words.{blockOf}
 use Rattle.signer.specs.State.{Within, Committed}
 use Rattle.signer.proofs.Within.{within-refl, within-trans}

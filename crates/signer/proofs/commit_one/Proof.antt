@@ -1,9 +1,8 @@
 -- `signer::commit_one` meets its contract. Assumes nothing.
-use mathlib.Core.Path.{_≡_, _∙_}
+use mathlib.Core.Path.{_∙_}
 use native.Mathlib.Omega.{arith}
-use Rattle.octets.specs.Lists.{part}
 use Rattle.workspace.specs.Map.{atVectors, atTree}
-use Rattle.workspace.proofs.Lent.{length-after, span, length-lend, lent}
+use Rattle.workspace.proofs.Lent.{length-after, length-slice, lent}
 use Rattle.signer.proofs.Committing.{length-both, one-within, one-committed}
 use borrow.Author.Needs.{needs}
 use Rattle.signer.proofs.commit_one.Statement.{statement}
@@ -34,11 +33,10 @@ part-commit-end : tie.Need-part-commit-end
 part-commit-end c = search needs
 
 commit-requires : tie.Need-commit-requires
-unfolding part
 commit-requires c κs =
     let s = c .before .before .before .before .before .before in
     let a = c .before .at-tree in
-    (s .pre .0, (s .pre .1 .2, s .pre .1 .0, length-lend (a .result) _ atTree 12289 (a .ensures) (span (a .result) 12289) (s .args .work .now) (omega (arith, s .pre))))
+    (s .pre .0, (s .pre .1 .2, s .pre .1 .0, length-slice (a .result) 12289 (s .args .work .now) (omega (arith, a .ensures, s .pre))))
 
 at-vectors-requires : tie.Need-at-vectors-requires
 at-vectors-requires c κs = search needs
@@ -53,38 +51,34 @@ part-put-lane-start : tie.Need-part-put-lane-start
 part-put-lane-start c = search needs
 
 part-put-lane-end : tie.Need-part-put-lane-end
-unfolding part
 part-put-lane-end c =
     let s = c .before .before .before .before .before .before .before .before .before .before .before in
     let a = c .before .before .before .before .before .before .at-tree in
     let k = c .before .before .before .before .commit in
-    let g = lent (a .result) _ atTree 12289 (a .ensures) (span (a .result) 12289) (k .last .1 .1 .1 .1 .1 .0) (s .args .work .now) (omega (arith, s .pre)) (k .kept .1 .1 .1 .1 .1 .0) in
+    let g = lent (a .result) atTree 12289 (a .ensures) (k .last .1 .1 .1 .1 .1 .0) (s .args .work .now) (omega (arith, s .pre)) (k .kept .1 .1 .1 .1 .1 .0) in
     omega (arith, c .at-vectors .ensures, s .pre, length-after g)
 
 put-lane-requires : tie.Need-put-lane-requires
-unfolding part
 put-lane-requires c κs =
     let s = c .before .before .before .before .before .before .before .before .before .before .before .before in
     let a = c .before .before .before .before .before .before .before .at-tree in
     let k = c .before .before .before .before .before .commit in
     let v = c .before .at-vectors in
-    let g = lent (a .result) _ atTree 12289 (a .ensures) (span (a .result) 12289) (k .last .1 .1 .1 .1 .1 .0) (s .args .work .now) (omega (arith, s .pre)) (k .kept .1 .1 .1 .1 .1 .0) in
-    (length-lend (v .result) _ atVectors 10944 (v .ensures) (span (v .result) 10944) _ (omega (arith, s .pre, length-after g)), omega (arith, s .pre))
+    let g = lent (a .result) atTree 12289 (a .ensures) (k .last .1 .1 .1 .1 .1 .0) (s .args .work .now) (omega (arith, s .pre)) (k .kept .1 .1 .1 .1 .1 .0) in
+    (length-slice (v .result) 10944 _ (omega (arith, v .ensures, s .pre, length-after g)), omega (arith, s .pre))
 
 keep-lines-requires : tie.Need-keep-lines-requires
-unfolding part
 keep-lines-requires c κs =
     let s = c .before .before .before .before .before .before .before .before .before .before .before .before .before .before .before .before in
     let a = c .before .before .before .before .before .before .before .before .before .before .before .at-tree in
     let k = c .before .before .before .before .before .before .before .before .before .commit in
     let v = c .before .before .before .before .before .at-vectors in
     let p = c .before .before .before .put-lane in
-    let g = lent (a .result) _ atTree 12289 (a .ensures) (span (a .result) 12289) (k .last .1 .1 .1 .1 .1 .0) (s .args .work .now) (omega (arith, s .pre)) (k .kept .1 .1 .1 .1 .1 .0) in
-    let h = lent (v .result) _ atVectors 10944 (v .ensures) (span (v .result) 10944) (p .last .0) _ (omega (arith, s .pre, length-after g)) (p .kept .0) in
+    let g = lent (a .result) atTree 12289 (a .ensures) (k .last .1 .1 .1 .1 .1 .0) (s .args .work .now) (omega (arith, s .pre)) (k .kept .1 .1 .1 .1 .1 .0) in
+    let h = lent (v .result) atVectors 10944 (v .ensures) (p .last .0) _ (omega (arith, s .pre, length-after g)) (p .kept .0) in
     (length-both (s .args .work .now) _ _ _ _ _ _ (s .pre .1 .1) g h, s .pre .1 .2)
 
 same-length : tie.Need-same-length
-unfolding part
 same-length c =
     let s = c .before .before .before .before .before .before .before .before .before .before .before .before .before .before .before .before .before .before .before in
     let a = c .before .before .before .before .before .before .before .before .before .before .before .before .before .before .at-tree in
@@ -92,12 +86,11 @@ same-length c =
     let v = c .before .before .before .before .before .before .before .before .at-vectors in
     let p = c .before .before .before .before .before .before .put-lane in
     let z = c .before .before .keep-lines .ensures .0 in
-    let g = lent (a .result) _ atTree 12289 (a .ensures) (span (a .result) 12289) (k .last .1 .1 .1 .1 .1 .0) (s .args .work .now) (omega (arith, s .pre)) (k .kept .1 .1 .1 .1 .1 .0) in
-    let h = lent (v .result) _ atVectors 10944 (v .ensures) (span (v .result) 10944) (p .last .0) _ (omega (arith, s .pre, length-after g)) (p .kept .0) in
+    let g = lent (a .result) atTree 12289 (a .ensures) (k .last .1 .1 .1 .1 .1 .0) (s .args .work .now) (omega (arith, s .pre)) (k .kept .1 .1 .1 .1 .1 .0) in
+    let h = lent (v .result) atVectors 10944 (v .ensures) (p .last .0) _ (omega (arith, s .pre, length-after g)) (p .kept .0) in
     one-within (s .args .work .now) _ _ _ _ _ _ (s .pre .1 .1) g h (s .args .e) _ _ _ _ (s .pre .1 .2) (z .0) (z .1) (z .2) (z .3) (c .before .before .keep-lines .ensures .1) .size
 
 returns : tie.Need-returns
-unfolding part
 returns c =
     let s = c .before .before .before .before .before .before .before .before .before .before .before .before .before .before .before .before .before .before .before in
     let a = c .before .before .before .before .before .before .before .before .before .before .before .before .before .before .at-tree in
@@ -105,8 +98,8 @@ returns c =
     let v = c .before .before .before .before .before .before .before .before .at-vectors in
     let p = c .before .before .before .before .before .before .put-lane in
     let z = c .before .before .keep-lines .ensures .0 in
-    let g = lent (a .result) _ atTree 12289 (a .ensures) (span (a .result) 12289) (k .last .1 .1 .1 .1 .1 .0) (s .args .work .now) (omega (arith, s .pre)) (k .kept .1 .1 .1 .1 .1 .0) in
-    let h = lent (v .result) _ atVectors 10944 (v .ensures) (span (v .result) 10944) (p .last .0) _ (omega (arith, s .pre, length-after g)) (p .kept .0) in (
+    let g = lent (a .result) atTree 12289 (a .ensures) (k .last .1 .1 .1 .1 .1 .0) (s .args .work .now) (omega (arith, s .pre)) (k .kept .1 .1 .1 .1 .1 .0) in
+    let h = lent (v .result) atVectors 10944 (v .ensures) (p .last .0) _ (omega (arith, s .pre, length-after g)) (p .kept .0) in (
       one-within (s .args .work .now) _ _ _ _ _ _ (s .pre .1 .1) g h (s .args .e) _ _ _ _ (s .pre .1 .2) (z .0) (z .1) (z .2) (z .3) (c .before .before .keep-lines .ensures .1),
       λ m d.
           let l = k .ensures m (c .before .before .before .before .before .before .before .before .before .before .before .before .before .before .before .load .ensures ∙ d .roots (s .args .e) (s .pre .1 .2)) in

@@ -1,5 +1,5 @@
 -- `signer::prepare` meets its contract. Assumes nothing.
-use mathlib.Core.Path.{_≡_, _∙_}
+use mathlib.Core.Path.{_∙_}
 use Rattle.octets.specs.Lists.{part}
 use Rattle.paper.specs.Keys.{solutionOf}
 use borrow.Author.Needs.{needs}

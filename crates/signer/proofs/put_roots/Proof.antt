@@ -1,12 +1,11 @@
 -- `signer::put_roots` meets its contract: before turn e the first e root seeds stand. Assumes nothing.
-use mathlib.Core.Path.{_≡_, sym, ap, _∙_}
-use mathlib.Core.List.{List}
+use mathlib.Core.Path.{_≡_, ap, _∙_}
 use Prim.Native.Nat.{ℕ, _-_, _≤_}
 use native.Mathlib.Omega.{arith}
 use lib.ListN.{length}
 use Rattle.octets.specs.Lists.{part, joined}
 use Rattle.octets.specs.Place.{place}
-use Rattle.octets.proofs.Place.{length-place, place-none}
+use Rattle.octets.proofs.Place.{length-place}
 use Rattle.octets.proofs.Frame.{part-before}
 use Rattle.aes.specs.Words.{blockOf}
 use Rattle.aes.proofs.Blocks.{length-blockOf}

@@ -1,10 +1,7 @@
 -- `signer::results` meets its contract: before turn i, i equations are added. Assumes nothing.
-use mathlib.Core.Path.{_≡_, ap, _∙_}
-use mathlib.Core.List.{List}
-use Prim.Native.Nat.{ℕ, _-_, _≤_}
+use mathlib.Core.Path.{_≡_, _∙_}
+use Prim.Native.Nat.{_-_, _≤_}
 use native.Mathlib.Omega.{arith}
-use lib.ListN.{length}
-use Rattle.octets.specs.Lists.{part}
 use Rattle.signer.specs.State.{Within}
 use Rattle.signer.proofs.Within.{within-refl, within-trans, within-before}
 use Rattle.signer.proofs.Columns.{Sums, sums-start, sums-turn, sums-end}

@@ -1,6 +1,5 @@
 -- `signer::sign` meets its contract. Assumes nothing.
-use mathlib.Core.Path.{_≡_, _∙_}
-use lib.ListN.{length}
+use mathlib.Core.Path.{_∙_}
 use Rattle.signer.proofs.Signing.{signed-unsolved, signed-answer}
 use borrow.Author.Tests.{not-true, not-false}
 use borrow.Author.Needs.{needs}

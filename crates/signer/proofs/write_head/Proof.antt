@@ -1,14 +1,13 @@
 -- `signer::write_head` meets its contract. Assumes nothing.
-use mathlib.Core.Path.{_≡_, ap, _∙_}
+use mathlib.Core.Path.{ap, _∙_}
 use mathlib.Core.List.{List, _++_}
 use Prim.Native.Nat.{ℕ}
 use native.Mathlib.Omega.{arith}
 use lib.ListN.{length}
-use Rattle.octets.specs.Lists.{part}
 use Rattle.octets.specs.Place.{place}
 use Rattle.octets.proofs.Place.{length-place}
 use Rattle.workspace.specs.Map.{atAlpha1}
-use Rattle.workspace.proofs.Lent.{span, part-at, length-lend}
+use Rattle.workspace.proofs.Lent.{length-slice, slice-at}
 use Rattle.signer.proofs.Openings.{head-written}
 use borrow.Author.Needs.{needs}
 use Rattle.signer.proofs.write_head.Statement.{statement}
@@ -39,24 +38,22 @@ part-put-end : tie.Need-part-put-end
 part-put-end c = search needs
 
 put-requires-4 : tie.Need-put-requires-4
-unfolding part
 put-requires-4 c κs =
     let s = c .before .before .before .before .before .before .before .before .before .before .before .before .before .before .before .before .before .before .before .before in
     let a = c .before .before .at-alpha1 in
     let l = ap length (c .before .before .before .before .before .put3 .ensures) ∙ length-place _ _ _ ∙ ap length (c .before .before .before .before .before .before .before .before .before .put2 .ensures) ∙ length-place _ _ _ ∙ ap length (c .before .before .before .before .before .before .before .before .before .before .before .before .before .put .ensures) ∙ length-place _ _ _ in
-    omega (arith, l, s .pre, length-lend (a .result) _ atAlpha1 476 (a .ensures) (span (a .result) 476) (s .args .work .now) (omega (arith, s .pre)))
+    omega (arith, l, s .pre, length-slice (a .result) 476 (s .args .work .now) (omega (arith, a .ensures, s .pre)))
 
 same-length : tie.Need-same-length
 same-length c = search needs
 
 returns : tie.Need-returns
-unfolding part
 returns c =
     let s = c .before .before .before .before .before .before .before .before .before .before .before .before .before .before .before .before .before .before .before .before .before .before .before in
     let a = s .args in
     let p = s .pre in
     let v = c .before .before .before .before .before .at-alpha1 in
-    let e = part-at (v .result) _ atAlpha1 476 (v .ensures) (span (v .result) 476) (a .work .now) in
+    let e = slice-at (v .result) atAlpha1 476 (v .ensures) (a .work .now) in
     head-written (a .salt .now) (a .com1 .now) (a .com2 .now) _ (a .sig .now) (p .0) (p .1) (p .2) (c .before .before .before .before .before .before .before .before .before .before .before .before .before .before .before .before .put .ensures) (c .before .before .before .before .before .before .before .before .before .before .before .before .put2 .ensures) (c .before .before .before .before .before .before .before .before .put3 .ensures) (c .before .before .put4 .ensures)
     ∙ ap (λ (l : List ℕ). place 0 (a .salt .now ++ (a .com1 .now ++ (a .com2 .now ++ l))) (a .sig .now)) e
 

@@ -1,9 +1,9 @@
 -- `signer::write_opening` meets its contract. Assumes nothing.
-use mathlib.Core.Path.{_≡_, _∙_}
-use Prim.Native.Nat.{_+_, _-_, _*_}
+use mathlib.Core.Path.{refl, _∙_}
+use Prim.Native.Nat.{_+_, _*_}
 use native.Mathlib.Omega.{arith}
-use lib.ListN.{length}
-use Rattle.octets.specs.Lists.{part}
+use Rattle.workspace.specs.Map.{atSent}
+use Rattle.workspace.proofs.Lent.{slice-is, lent}
 use Rattle.signer.proofs.Openings.{opening-written}
 use borrow.Author.Needs.{needs}
 use Rattle.signer.proofs.write_opening.Statement.{statement}
@@ -82,16 +82,14 @@ same-length : tie.Need-same-length
 same-length c = search needs
 
 returns : tie.Need-returns
-unfolding part
 returns c =
     let s = c .before .before .before .before .before .before .before .before .before .before .before .before .before .before .before .before .before .before in
     let a = s .args in
     let r = c .before .before .before .before .before .before .before .before .before .before .before .before .reveal in
+    let l = lent (556 + 128 * a .e) (556 + 128 * a .e) 128 refl (r .last .1 .1 .1 .1 .1 .1 .0) (a .sig .now) (omega (arith, s .pre)) (r .kept .1 .1 .1 .1 .1 .1 .0) in
     λ m g.
     let v = r .ensures m (c .before .before .before .before .before .before .before .before .before .before .before .before .before .before .load .ensures ∙ g .roots (a .e) (s .pre .1 .4)) in
-    let k : 556 + 128 * a .e + 128 - (556 + 128 * a .e) ≡ 128 = omega arith in
-    let l : 42145 + 12 * a .e + 12 - (42145 + 12 * a .e) ≡ 12 = omega arith in
-    opening-written m _ (a .x .now) (λ k. a .hidden) (a .e) (a .work .now) (a .sig .now) _ _ _ _ _ _ (s .pre .1 .4) (s .pre .1 .3) k l g (v .path-is) (v .out-is) (r .kept .1 .1 .1 .1 .1 .1 .0) (c .before .before .before .before .before .before .before .put .ensures) (c .before .before .put2 .ensures)
+    opening-written m _ (a .x .now) (λ k. a .hidden) (a .e) (a .work .now) (a .sig .now) _ _ _ _ _ _ _ (s .pre .1 .4) g l (v .path-is) (v .out-is) (c .before .before .before .before .before .before .before .put .ensures) (slice-is (atSent + 12 * a .e) 12 (a .work .now)) (c .before .before .put2 .ensures)
 
 pub write-opening-spec : {M : Type 1} → statement M
 write-opening-spec =

@@ -8,7 +8,7 @@ use Rattle.octets.specs.Lists.{part, bytesOf}
 use Rattle.octets.proofs.Part.{length-part, part-all, length-bytesOf}
 use Rattle.paper.specs.Keys.{solutionOf}
 use Rattle.signer.specs.Written.{Openable}
-use Rattle.workspace.proofs.Lent.{length-back}
+use Rattle.workspace.proofs.Lent.{length-after, lent}
 use Rattle.signer.proofs.Signing.{signature-written}
 use borrow.Author.Needs.{needs}
 use Rattle.signer.proofs.write_signature.Statement.{statement}
@@ -68,7 +68,7 @@ write-openings-requires c κs =
         length-part 60 28 (s .args .sk .now) (omega (arith, s .pre)),
         sym (slice-aggregate-write-openings (c .before)),
         s .pre .1 .5,
-        length-back 3480 4 3480 4 refl refl (p .last .1 .0) (h .last .1 .1 .1 .1 .0) (omega arith) (p .kept .1 .0) ∙ l,
+        length-after (lent 3480 3480 4 refl (p .last .1 .0) (h .last .1 .1 .1 .1 .0) (omega arith) (p .kept .1 .0)) ∙ l,
       ),
     )
 
@@ -85,9 +85,9 @@ returns c =
     let p = c .before .before .before .before .before .before .before .before .before .before .before .before .put-nonce in
     let b = c .before .before .before .before .before .load .ensures ∙ part-all 16 (a .salt .now) (q .1) in
     λ m g.
-    signature-written m (a .salt .now) (part 60 28 (a .sk .now)) (a .com1 .now) (a .com2 .now) (part 42877 476 (a .work .now)) (a .hash .now) _ _ _ (a .sig .now) _ _ (bytesOf 4 (a .nonce))
+    signature-written m (a .salt .now) (part 60 28 (a .sk .now)) (a .com1 .now) (a .com2 .now) (part 42877 476 (a .work .now)) (a .hash .now) _ _ (a .sig .now) _ _ _ _ _ (bytesOf 4 (a .nonce))
     (q .1) (q .2) (q .3) (length-part 42877 476 (a .work .now) (omega (arith, q))) (length-bytesOf 4 (a .nonce)) (q .6) (g .seed) (length-part 60 28 (a .sk .now) (omega (arith, q)))
-    (h .ensures) (p .kept .1 .0) (p .ensures) (c .before .before .before .before .before .before .before .sample .ensures) b
+    (h .ensures) (lent 3480 3480 4 refl (p .last .1 .0) (h .last .1 .1 .1 .1 .0) (omega (arith, q, h .kept .1 .1 .1 .1 .0)) (p .kept .1 .0)) (p .ensures) (c .before .before .before .before .before .before .before .sample .ensures) b
     (c .before .before .write-openings .ensures m (subst (λ (t : List ℕ). Openable m t (part 60 28 (a .sk .now)) (a .work .now)) (sym b) g))
 
 pub write-signature-spec : {M : Type 1} → statement M
