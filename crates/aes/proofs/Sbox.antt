@@ -10,7 +10,7 @@ use Rattle.octets.specs.Lists.{vec}
 use Rattle.octets.specs.Xor.{_⊕_}
 use Rattle.octets.proofs.Xor.{⊕-lt}
 use Rattle.field.proofs.Linear.{below, below-at}
-use Rattle.field.proofs.Inverse.{inverse, inverses}
+use Rattle.field.specs.Inverse.{inverse, inverses}
 use Rattle.aes.specs.Sbox.{bit, affineBit, affine, sbox}
 
 -- the constant of src/tables.rt

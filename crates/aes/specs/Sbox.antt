@@ -1,7 +1,7 @@
 -- FIPS 197, section 5.1.1: the substitution box. Its byte field is K: a byte's bit i is the coefficient of ξ^i. Definitions only.
 use Prim.Native.Nat.{ℕ, _+_, _*_, _/_, _%_, _^_}
 use Rattle.octets.specs.Xor.{_⊕_}
-use Rattle.field.proofs.Inverse.{inverse}
+use Rattle.field.specs.Inverse.{inverse}
 
 -- bit i of b, for i taken modulo 8
 unfoldable pub bit : ℕ → ℕ → ℕ

@@ -92,12 +92,23 @@ solved-line n e x x0 h r =
     ∙ ap (λ (z : ℕ). ((z ⊕ e .y) ⊗ (r ⊗ r)) ⊕ line (z1 n e x x0) (z0 n e x0) r) h
     ∙ leading-gone (e .y) r (line (z1 n e x x0) (z0 n e x0) r)
 
--- an equation reads n elements of the vector
-pub zAt-ext : (n : ℕ) (e : Equation) (v v' : ℕ → ℕ) (r : ℕ) → ((k : ℕ) → k < n → v k ≡ v' k) → zAt n e v r ≡ zAt n e v' r
-zAt-ext n e v v' r h =
-    ap (λ (z : ℕ). z ⊕ (e .y ⊗ (r ⊗ r)))
-    (sum-ext n _ _
-    (λ j hj.
-    ap₂ _⊗_
-    (ap (λ (z : ℕ). z ⊕ (e .b j ⊗ r)) (sum-ext (suc j) _ _ (λ k hk. ap (e .A j k ⊗_) (h k (omega arith)))))
-    (h j hj)))
+-- ---- an equation reads n elements of its vectors
+
+module _ (n : ℕ) (e : Equation) (v w : ℕ → ℕ) (h : (k : ℕ) → k < n → v k ≡ w k) where
+  mat-ext : (j : ℕ) → j < n → mat suc (e .A) v j ≡ mat suc (e .A) w j
+  mat-ext j hj = sum-ext (suc j) _ _ (λ k hk. ap (e .A j k ⊗_) (h k (omega arith)))
+
+  pub z0-ext : z0 n e v ≡ z0 n e w
+  z0-ext = sum-ext n _ _ (λ j hj. ap₂ _⊗_ (mat-ext j hj) (h j hj))
+
+  pub form-ext : form n e v ≡ form n e w
+  form-ext = ap₂ _⊕_ z0-ext (sum-ext n _ _ (λ j hj. ap (e .b j ⊗_) (h j hj)))
+
+  pub zAt-ext : (r : ℕ) → zAt n e v r ≡ zAt n e w r
+  zAt-ext r =
+      ap (λ (z : ℕ). z ⊕ (e .y ⊗ (r ⊗ r))) (sum-ext n _ _ (λ j hj. ap₂ _⊗_ (ap (λ (z : ℕ). z ⊕ (e .b j ⊗ r)) (mat-ext j hj)) (h j hj)))
+
+pub z1-ext : (n : ℕ) (e : Equation) (x y v w : ℕ → ℕ) → ((k : ℕ) → k < n → x k ≡ y k) → ((k : ℕ) → k < n → v k ≡ w k) → z1 n e x v ≡ z1 n e y w
+z1-ext n e x y v w hx hv =
+    ap₂ _⊕_ (sum-ext n _ _ (λ j hj. ap₂ _⊗_ (mat-ext n e v w hv j hj) (hx j hj)))
+    (sum-ext n _ _ (λ j hj. ap₂ _⊗_ (ap (λ (z : ℕ). z ⊕ e .b j) (mat-ext n e x y hx j hj)) (hv j hj)))

@@ -49,7 +49,7 @@ module _ (c : Setting) (h : Shares) (s : ℕ) (X U : ℕ → ℕ → ℕ) (d a1 
       (ap₂ _⊕_ (vu-is j row)
       (batch-ext (c .m) (c .B) _ _
       (λ q hq.
-      zAt-ext (c .n) (c .eqs q) (vx c s X d) (λ k. line (h .x k) (x0 c h k) (c .w s)) (c .w s) vx-is
+      zAt-ext (c .n) (c .eqs q) (vx c s X d) (λ k. line (h .x k) (x0 c h k) (c .w s)) vx-is (c .w s)
       ∙ solved-line (c .n) (c .eqs q) (h .x) (x0 c h) (solves q hq) (c .w s))
       j row))
       (ap (_⊗ c .w s) (o .a1-same j row))

@@ -2,7 +2,7 @@
 -- recompute_one, and in the end. Assumes nothing.
 use mathlib.Core.Path.{_≡_, sym, ap, ap₂, subst, _∙_}
 use mathlib.Core.List.{List, _++_}
-use Prim.Native.Nat.{ℕ, suc, _+_, _*_, _/_, _%_, _<_, _≤_}
+use Prim.Native.Nat.{ℕ, _+_, _*_, _<_, _≤_}
 use native.Mathlib.Omega.{arith}
 use borrow.Author.Count.{below-more}
 use lib.ListN.{length}
@@ -10,15 +10,15 @@ use Rattle.octets.specs.Xor.{_⊕_}
 use Rattle.octets.specs.Lists.{vec, tab, part, joined}
 use Rattle.octets.specs.Place.{place}
 use Rattle.octets.proofs.Xor.{⊕-assoc, ⊕-comm}
-use Rattle.octets.proofs.Tab.{length-tab, vec-tab}
-use Rattle.octets.proofs.Part.{vec-part, length-joined}
+use Rattle.octets.proofs.Tab.{vec-tab}
+use Rattle.octets.proofs.Part.{vec-part}
 use Rattle.octets.proofs.Place.{length-place}
-use Rattle.octets.proofs.Frame.{vec-place, vec-place-after, part-before, part-place, part-add, part-is, vec-joined}
+use Rattle.octets.proofs.Frame.{vec-place, vec-place-after, part-before, part-place, part-add, vec-joined}
 use Rattle.field.specs.Gf.{_⊗_}
 use Rattle.field.proofs.Field.{⊗-comm}
-use Rattle.field.proofs.Sum.{sum-ext}
 use Rattle.algebra.specs.Folding.{point}
-use Rattle.algebra.specs.Line.{Equation, equationIn, zAt, batch}
+use Rattle.algebra.specs.Line.{equationIn, zAt, batch}
+use Rattle.algebra.proofs.Equation.{zAt-ext}
 use Rattle.paper.specs.Keys.{rows, equation, mseedEqOf, yOf}
 use Rattle.paper.specs.Commit.{xEval, uEval}
 use Rattle.paper.specs.Alpha.{r3, alpha0In}
@@ -26,15 +26,9 @@ use Rattle.seeds.specs.Expanded.{plainKeys}
 use Rattle.equations.specs.Lanes.{lane, Masks}
 use Rattle.equations.specs.Put.{Put}
 use Rattle.workspace.specs.Map.{atVectors, atAlpha0, atAlpha1}
+use Rattle.workspace.proofs.Rows.{rows-are}
 use Rattle.checker.specs.State.{restOf, Evaluated, Vectors, Recomputed}
 use Rattle.checker.proofs.Evaluating.{length-restOf}
-
--- an equation's value reads n elements of the vector
-pub zAt-ext : (n : ℕ) (e : Equation) (v w : ℕ → ℕ) (r s : ℕ) → ((k : ℕ) → k < n → v k ≡ w k) → r ≡ s → zAt n e v r ≡ zAt n e w s
-zAt-ext n e v w r s h q =
-    ap₂ _⊕_
-    (sum-ext n _ _ (λ j hj. ap₂ _⊗_ (ap₂ _⊕_ (sum-ext (suc j) _ _ (λ k hk. ap (e .A j k ⊗_) (h k (omega arith)))) (ap (e .b j ⊗_) q)) (h j hj)))
-    (ap (λ (z : ℕ). e .y ⊗ (z ⊗ z)) q)
 
 -- ---- one equation
 
@@ -46,7 +40,8 @@ module _ (pk q z : List ℕ) (i : ℕ) (x : ℕ → ℕ → ℕ) (p : ℕ → �
       ap (λ (l : List ℕ). vec l e) ez
       ∙ vec-tab 24 _ e (omega arith)
       ∙ ap₂ (λ (l : List ℕ) (c : ℕ). zAt 56 (equationIn 56 l 0 c) (λ k. v k e) (v 56 e)) eq (ey ∙ sym (vec-part 32 28 pk i hi))
-      ∙ zAt-ext 56 (equationIn 56 (rows (mseedEqOf pk) i) 0 (vec (part 32 28 pk) i)) (λ k. v k e) (x e) (v 56 e) (p e) (λ k hk. lanes .values e k he hk) (lanes .points e he)
+      ∙ zAt-ext 56 (equationIn 56 (rows (mseedEqOf pk) i) 0 (vec (part 32 28 pk) i)) (λ k. v k e) (x e) (λ k hk. lanes .values e k he hk) (v 56 e)
+      ∙ ap (zAt 56 (equationIn 56 (rows (mseedEqOf pk) i) 0 (vec (part 32 28 pk) i)) (x e)) (lanes .points e he)
 
   module _ (w a : List ℕ) (rest : ℕ → ℕ → ℕ) (hw : length w ≡ 65536) (la : length a ≡ 476)
       (put : Put (part atAlpha0 476 w) 17 (λ e. 28 * e + i) (λ e. vec (part atAlpha0 476 w) (28 * e + i) ⊕ vec z e) a)
@@ -119,19 +114,6 @@ module _ (salt paths outs sents a1 : List ℕ) (i : ℕ → ℕ) (w k y : List �
   }
 
 -- ---- in the end
-
--- element k of 17 times 28 bytes, by rows
-by-rows : (P : ℕ → Type 0) → ((e j : ℕ) → e < 17 → j < 28 → P (28 * e + j)) → (k : ℕ) → k < 476 → P k
-by-rows P h k hk =
-    let e : 28 * (k / 28) + k % 28 ≡ k = omega arith in
-    subst P e (h (k / 28) (k % 28) (omega arith) (omega arith))
-
-rows-are : (a : ℕ) (w : List ℕ) (f : ℕ → ℕ → ℕ) → a + 476 ≤ length w → ((e j : ℕ) → e < 17 → j < 28 → vec w (a + (28 * e + j)) ≡ f e j)
-    → part a 476 w ≡ joined 17 (λ e. tab 28 (f e))
-rows-are a w f hw h =
-    part-is a 476 w (joined 17 (λ e. tab 28 (f e))) hw (length-joined 17 28 (λ e. tab 28 (f e)) (λ e he. length-tab 28 (f e)))
-    (by-rows (λ (k : ℕ). vec w (a + k) ≡ vec (joined 17 (λ e. tab 28 (f e))) k)
-    (λ e j he hj. h e j he hj ∙ sym (vec-joined 17 28 (λ e. tab 28 (f e)) (λ e he. length-tab 28 (f e)) e j he hj ∙ vec-tab 28 (f e) j hj)))
 
 order : (u z r a : ℕ) → (u ⊕ (r ⊗ a)) ⊕ z ≡ (u ⊕ z) ⊕ (a ⊗ r)
 order u z r a =

@@ -41,7 +41,7 @@ fn keep_values(work: &mut [u8], e: usize, h: [u8; 32], u: [u8; 28], alpha1: &[u8
 {
     workspace::keep_hash(work, e, h);
     let w = rest_at(u, alpha1, r);
-    workspace::put(&w, work, workspace::ALPHA0 + 28 * e);
+    octets::put(&w, work, workspace::ALPHA0 + 28 * e);
 }
 
 // Lines 3 to 17 for repetition e.
@@ -95,7 +95,7 @@ fn evaluate(t: &[u32; 1024], sig: &[u8], c: &[u8], work: &mut [u8]) -> bool
     ensures same { λ r. ⌜ r ≡ alike (com1Of (now (sig .entry)) (hiddenIn (now (c .entry)))) (sigCom1 r3 (now (sig .entry))) ⌝ }
 {
     eval_all(t, sig, c, work);
-    workspace::put(&sig[3276..3480], work, workspace::SENT);
+    octets::put(&sig[3276..3480], work, workspace::SENT);
     let a = workspace::first_commitment(work);
     octets::same(&a, &sig[16..48])
 }
@@ -140,7 +140,7 @@ fn recompute(t: &[u32; 1024], pk: &[u8], sig: &[u8], work: &mut [u8]) -> bool
     seeds::plain_keys(t, &mut work[..v]);
     equations::spread(&mut work[v..v + 10944]);
     recompute_all(t, pk, work);
-    workspace::put(&sig[80..556], work, workspace::ALPHA1);
+    octets::put(&sig[80..556], work, workspace::ALPHA1);
     let b = workspace::second_commitment(work);
     octets::same(&b, &sig[48..80])
 }

@@ -1,7 +1,9 @@
-// Buffers of bytes: clear, fill, copy, compare.
+// Buffers of bytes: clear, fill, copy, put, compare.
 ghost use mathlib.Core.Path.{_≡_};
+ghost use Prim.Native.Nat.{_+_, _≤_};
 ghost use lib.ListN.{length, replicate};
 ghost use Rattle.octets.specs.Lists.{alike};
+ghost use Rattle.octets.specs.Place.{place};
 
 // Every byte of buf is v afterwards.
 pub fn fill(buf: &mut [u8], v: u8)
@@ -31,6 +33,14 @@ pub fn copy(src: &[u8], dst: &mut [u8])
         dst[i] = src[i];
         i += 1;
     }
+}
+
+// text is written into out from place at on.
+pub fn put(text: &[u8], out: &mut [u8], at: usize)
+    requires { ⌜ at + length (now text) ≤ length (now out) ⌝ }
+    ensures { λ _. ⌜ now (out .exit) ≡ place at (now (text .entry)) (now (out .entry)) ⌝ }
+{
+    copy(text, &mut out[at..at + text.len()]);
 }
 
 // Whether a and b hold the same bytes. Of two that are equally long every byte is read, whatever they hold.

@@ -1,12 +1,12 @@
 -- Document 01's table of twelve worked examples, and three more that pin the order of bytes. Assumes nothing.
 use mathlib.Core.Path.{_≡_, refl}
-use mathlib.Core.List.{List, [], _∷_}
-use Prim.Native.Nat.{ℕ}
+use mathlib.Core.List.{[], _∷_}
 use Rattle.octets.specs.Xor.{_⊕_, xorB}
 use Rattle.octets.specs.Lists.{part, bytesOf, zero16}
 use Rattle.field.specs.Gf.{_⊗_}
 use Rattle.aes.specs.Sbox.{sbox}
 use Rattle.aes.proofs.Examples as aes
+use Rattle.field.proofs.Examples as field
 use Rattle.paper.specs.Symmetric.{selectors, selector, derive, tweakSalt, psi}
 use Rattle.algebra.specs.Folding.{point}
 
@@ -22,10 +22,10 @@ gray-7-to-255 = (refl, refl, refl, refl)
 
 -- 9 and 10: FIPS 197's byte field
 pub product-57-83 : 0x57 ⊗ 0x83 ≡ 0xc1
-product-57-83 = aes.product-57-83
+product-57-83 = field.product-57-83
 
 pub product-57-13 : 0x57 ⊗ 0x13 ≡ 0xfe
-product-57-13 = aes.product-57-13
+product-57-13 = field.product-57-13
 
 -- 11 and 12: the substitution table
 pub sbox-00 : sbox 0x00 ≡ 0x63

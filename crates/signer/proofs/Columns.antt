@@ -17,6 +17,7 @@ use Rattle.octets.proofs.Place.{length-place}
 use Rattle.octets.proofs.Frame.{vec-place, vec-place-before, vec-place-after}
 use Rattle.field.specs.Vec.{lifted}
 use Rattle.algebra.specs.Line.{equationIn, form, z0, z1}
+use Rattle.algebra.proofs.Equation.{z0-ext, z1-ext, form-ext}
 use Rattle.paper.specs.Keys.{rows, equation, valuesAt, mseedEqOf, yOf}
 use Rattle.paper.proofs.Keys.{length-yOf}
 use Rattle.equations.specs.Lanes.{Masks, OnLines}
@@ -25,7 +26,6 @@ use Rattle.workspace.specs.Map.{atVectors, atAlpha0, atAlpha1}
 use Rattle.signer.specs.State.{Within, Vectors, Resulted, Adds, AddsAll}
 use Rattle.workspace.proofs.Lent.{Lent}
 use Rattle.signer.proofs.Within.{within-place, within-more, within-before}
-use Rattle.signer.proofs.Equation.{z0-ext, z1-ext, form-ext}
 
 length-values : (m x : List ℕ) → length (valuesAt m x) ≡ 28
 unfolding valuesAt

@@ -1,7 +1,6 @@
 pub mod Within
 pub mod Roots
 pub mod Committing
-pub mod Equation
 pub mod Columns
 pub mod ResultLines
 pub mod Openings

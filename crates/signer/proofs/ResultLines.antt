@@ -2,15 +2,15 @@
 use mathlib.Core.Path.{_≡_, sym, ap, subst, _∙_}
 use mathlib.Core.Bool.{Bool}
 use mathlib.Core.List.{List}
-use Prim.Native.Nat.{ℕ, _+_, _*_, _/_, _%_, _<_, _≤_}
+use Prim.Native.Nat.{ℕ, _+_, _*_, _<_, _≤_}
 use native.Mathlib.Omega.{arith}
 use lib.ListN.{length}
 use Rattle.octets.specs.Lists.{vec, tab, part, joined, alike}
 use Rattle.octets.specs.Place.{place}
 use Rattle.octets.proofs.Tab.{length-tab, vec-tab}
-use Rattle.octets.proofs.Part.{vec-part, length-joined}
+use Rattle.octets.proofs.Part.{vec-part}
 use Rattle.octets.proofs.Place.{length-place}
-use Rattle.octets.proofs.Frame.{vec-joined, part-is, part-place}
+use Rattle.octets.proofs.Frame.{vec-joined, part-place}
 use Rattle.algebra.specs.Line.{batch}
 use Rattle.paper.specs.Keys.{equation, valuesAt, publicOf, solutionOf, mseedEqOf, yOf, satisfied}
 use Rattle.paper.specs.Commit.{u0At, u1At, x0At}
@@ -21,13 +21,8 @@ use Rattle.equations.specs.Put.{Own}
 use Rattle.workspace.specs.Map.{atVectors, atHashes, atSent, atAlpha0, atAlpha1, atRoots}
 use Rattle.signer.specs.State.{Within, Committed, Vectors, Resulted, AddsAll, Prepared}
 use Rattle.workspace.proofs.Lent.{Lent, length-after}
+use Rattle.workspace.proofs.Rows.{rows-are}
 use Rattle.signer.proofs.Within.{within-place, within-more, within-before, within-behind}
-
--- element k of 17 times 28 bytes, by rows
-by-rows : (P : ℕ → Type 0) → ((e j : ℕ) → e < 17 → j < 28 → P (28 * e + j)) → (k : ℕ) → k < 476 → P k
-by-rows P h k hk =
-    let e : 28 * (k / 28) + k % 28 ≡ k = omega arith in
-    subst P e (h (k / 28) (k % 28) (omega arith) (omega arith))
 
 -- ---- where it starts: the vectors v with the solution in lane 17, and then their masks y
 
@@ -75,13 +70,6 @@ module _ (m salt x w v y : List ℕ) (hw : length w ≡ 65536) (lv : length v �
   }
 
 -- ---- what it ends with
-
-rows-are : (a : ℕ) (w : List ℕ) (f : ℕ → ℕ → ℕ) → a + 476 ≤ length w → ((e j : ℕ) → e < 17 → j < 28 → vec w (a + (28 * e + j)) ≡ f e j)
-    → part a 476 w ≡ joined 17 (λ e. tab 28 (f e))
-rows-are a w f hw h =
-    part-is a 476 w (joined 17 (λ e. tab 28 (f e))) hw (length-joined 17 28 (λ e. tab 28 (f e)) (λ e he. length-tab 28 (f e)))
-    (by-rows (λ (k : ℕ). vec w (a + k) ≡ vec (joined 17 (λ e. tab 28 (f e))) k)
-    (λ e j he hj. h e j he hj ∙ sym (vec-joined 17 28 (λ e. tab 28 (f e)) (λ e he. length-tab 28 (f e)) e j he hj ∙ vec-tab 28 (f e) j hj)))
 
 module _ (sk salt m w : List ℕ) (hw : length w ≡ 65536)
     (r : Resulted (mseedEqOf (publicOf sk)) (solutionOf sk) (x0At 28 m salt (solutionOf sk)) (u0At 28 m salt (solutionOf sk)) (u1At 28 m salt (solutionOf sk)) 28 w) where

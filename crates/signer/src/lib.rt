@@ -52,10 +52,10 @@ fn keep_lines(work: &mut [u8], e: usize, l: Lines)
     let u0 = l.u0;
     let u1 = l.u1;
     let d = l.correction;
-    workspace::put(&h, work, workspace::HASHES + 32 * e);
-    workspace::put(&u0, work, workspace::ALPHA0 + 28 * e);
-    workspace::put(&u1, work, workspace::ALPHA1 + 28 * e);
-    workspace::put(&d, work, workspace::SENT + 12 * e);
+    octets::put(&h, work, workspace::HASHES + 32 * e);
+    octets::put(&u0, work, workspace::ALPHA0 + 28 * e);
+    octets::put(&u1, work, workspace::ALPHA1 + 28 * e);
+    octets::put(&d, work, workspace::SENT + 12 * e);
 }
 
 fn commit_one(t: &[u32; 1024], x: &[u8], salt: Cols, work: &mut [u8], e: usize)
@@ -174,9 +174,9 @@ fn write_opening(
     let root = aes::load(work, workspace::ROOTS + 16 * e);
     let p = 556 + 128 * e;
     let c = lines::reveal(t, salt, e, root, x, hidden, &mut sig[p..p + 128]);
-    workspace::put(&c, sig, 2732 + 32 * e);
+    octets::put(&c, sig, 2732 + 32 * e);
     let f = workspace::SENT + 12 * e;
-    workspace::put(&work[f..f + 12], sig, 3276 + 12 * e);
+    octets::put(&work[f..f + 12], sig, 3276 + 12 * e);
 }
 
 fn write_openings(t: &[u32; 1024], x: &[u8], salt: Cols, c: &[u8], work: &[u8], sig: &mut [u8])
@@ -196,11 +196,11 @@ fn write_head(salt: &[u8], com1: &[u8], com2: &[u8], work: &[u8], sig: &mut [u8]
     requires { ⌜ (length (now salt) ≡ 16) × (length (now com1) ≡ 32) × (length (now com2) ≡ 32) × (length (now work) ≡ 65536) × (length (now sig) ≡ 3484) ⌝ }
     ensures { λ _. ⌜ now (sig .exit) ≡ place 0 (now (salt .entry) ++ (now (com1 .entry) ++ (now (com2 .entry) ++ part atAlpha1 476 (now (work .entry))))) (now (sig .entry)) ⌝ }
 {
-    workspace::put(salt, sig, 0);
-    workspace::put(com1, sig, 16);
-    workspace::put(com2, sig, 48);
+    octets::put(salt, sig, 0);
+    octets::put(com1, sig, 16);
+    octets::put(com2, sig, 48);
     let a = workspace::at_alpha1();
-    workspace::put(&work[a..a + 476], sig, 80);
+    octets::put(&work[a..a + 476], sig, 80);
 }
 
 // The whole signature, with the nonce that was found.

@@ -29,24 +29,16 @@ pub fn put_nonce(nonce: u32, out: &mut [u8])
     out[3] = (nonce / 16777216 % 256) as u8;
 }
 
-// part is written into p from place at on.
-fn put(part: &[u8], p: &mut [u8], at: usize)
-    requires { ⌜ at + length (now part) ≤ length (now p) ⌝ }
-    ensures { λ _. ⌜ now (p .exit) ≡ place at (now (part .entry)) (now (p .entry)) ⌝ }
-{
-    octets::copy(part, &mut p[at..at + part.len()]);
-}
-
 // p holds the input of the Fiat-Shamir hash afterwards; m is the message's hash.
 fn put_transcript(pk: &[u8], com1: &[u8], com2: &[u8], m: &[u8], p: &mut [u8])
     requires { ⌜ (length (now pk) ≡ 60) × (length (now com1) ≡ 32) × (length (now com2) ≡ 32) × (length (now m) ≡ 32) × (length (now p) ≡ 157) ⌝ }
     ensures { λ _. ⌜ now (p .exit) ≡ selectorOf forTranscript ∷ (now (pk .entry) ++ now (com1 .entry) ++ now (com2 .entry) ++ now (m .entry)) ⌝ }
 {
     p[0] = seeds::selector(seeds::TRANSCRIPT);
-    put(pk, p, 1);
-    put(com1, p, 61);
-    put(com2, p, 93);
-    put(m, p, 125);
+    octets::put(pk, p, 1);
+    octets::put(com1, p, 61);
+    octets::put(com2, p, 93);
+    octets::put(m, p, 125);
 }
 
 // Hash_4(pk, com1, com2, Hash_2(msg)) (algorithm 3, line 9; algorithm 5, line 4).
@@ -66,7 +58,7 @@ fn put_hash(hash: &[u8], p: &mut [u8])
     ensures { λ _. ⌜ part 0 33 (now (p .exit)) ≡ selectorOf forChallenge ∷ now (hash .entry) ⌝ }
 {
     p[0] = seeds::selector(seeds::CHALLENGE);
-    put(hash, p, 1);
+    octets::put(hash, p, 1);
 }
 
 // XOF_5(hash, nonce): the challenge of a nonce (algorithm 4, lines 2 and 5).
@@ -76,7 +68,7 @@ pub fn sample(hash: &[u8], nonce: &[u8]) -> [u8; 19]
 {
     let mut p = [0u8; 37];
     put_hash(hash, &mut p);
-    put(nonce, &mut p, 33);
+    octets::put(nonce, &mut p, 33);
     let mut c = [0u8; 19];
     shake::xof(&p, &mut c);
     c

@@ -1,7 +1,7 @@
 // The workspace: where things stand in it, and what signing and checking do with it alike.
 ghost use mathlib.Core.Path.{_≡_};
 ghost use mathlib.Core.List.{[], _∷_};
-ghost use Prim.Native.Nat.{_+_, _*_, _<_, _≤_};
+ghost use Prim.Native.Nat.{_+_, _*_, _<_};
 ghost use lib.ListN.{length};
 ghost use Rattle.octets.specs.Lists.{part};
 ghost use Rattle.octets.specs.Place.{place};
@@ -60,20 +60,12 @@ pub fn at_alpha1() -> usize
     ALPHA1
 }
 
-// text is written into out from place at on.
-pub fn put(text: &[u8], out: &mut [u8], at: usize)
-    requires { ⌜ at + length (now text) ≤ length (now out) ⌝ }
-    ensures { λ _. ⌜ now (out .exit) ≡ place at (now (text .entry)) (now (out .entry)) ⌝ }
-{
-    octets::copy(text, &mut out[at..at + text.len()]);
-}
-
 // hash_ls_com[e] at its place.
 pub fn keep_hash(work: &mut [u8], e: usize, h: [u8; 32])
     requires { ⌜ (length (now work) ≡ 65536) × (e < 17) ⌝ }
     ensures { λ _. ⌜ now (work .exit) ≡ place (atHashes + 32 * e) h (now (work .entry)) ⌝ }
 {
-    put(&h, work, HASHES + 32 * e);
+    octets::put(&h, work, HASHES + 32 * e);
 }
 
 // com_1: Hash_7 of the hashes and the corrections.

@@ -1,12 +1,12 @@
--- `transcript::put` meets its contract. Assumes nothing.
+-- `octets::put` meets its contract. Assumes nothing.
 use mathlib.Core.Path.{_≡_, refl}
 use native.Mathlib.Omega.{arith}
 use Prim.Native.Nat.{_+_, _-_}
 use lib.ListN.{length}
 use Rattle.octets.proofs.Place.{place-write}
 use borrow.Author.Needs.{needs}
-use Rattle.transcript.proofs.put.Statement.{statement}
-use Rattle.transcript.proofs.put.Tie as tie
+use Rattle.octets.proofs.put.Statement.{statement}
+use Rattle.octets.proofs.put.Tie as tie
 
 add-copy : tie.Need-add-copy
 add-copy c = search needs
@@ -29,9 +29,9 @@ same-length c = search needs
 returns : tie.Need-returns
 returns c =
     let s = c .before .before .before .before .before .before in
-    let n = length (s .args .part .now) in
+    let n = length (s .args .text .now) in
     let e : s .args .at + n - s .args .at ≡ n = omega arith in
-    place-write (s .args .at) _ n _ (s .args .part .now) _ (s .args .p .now) (c .before .before .copy .ensures) refl refl e (s .pre)
+    place-write (s .args .at) _ n _ (s .args .text .now) _ (s .args .out .now) (c .before .before .copy .ensures) refl refl e (s .pre)
 
 pub put-spec : {M : Type 1} → statement M
 put-spec =
