@@ -16,6 +16,8 @@ use Rattle.mqom.specs.Words.{SignSized, CheckSized, Fits, TriesWithin}
 use Rattle.mqom.proofs.Outcomes.{gave-done}
 use Rattle.mqom.proofs.Branches.{keygen-done, sign-done, check-yes}
 use Rattle.mqom.proofs.Exactly.{keygen-exactly-0, sign-exactly-0, check-exactly-0}
+use Rattle.mqom.proofs.Search.{SignedWith}
+use Rattle.mqom.proofs.Made.{FieldsOf, fields-signed}
 
 -- ---- key generation
 
@@ -63,6 +65,14 @@ pub signature-bytes : {sk msg salt mseed : List ℕ} {tries : ℕ} {sig work : L
 signature-bytes {sk} {msg} {salt} {mseed} {tries} {sig} {work} {sig′ = sig′} c h =
     let z = sign-zero-done sk msg salt mseed tries (length sig) (length work) (sym (c .ends .number) ∙ h) in
     sign-bytes sk msg salt mseed tries (length sig) (length work) sig′ .0 (z .1 ∙ ap done (sym (gave-done (z .1) (c .signature))))
+
+-- each field of it is what it should be
+pub signature-fields : {sk msg salt mseed : List ℕ} {tries : ℕ} {sig work : List ℕ} {r : ℕ} {sig′ work′ : List ℕ}
+    → SignsMessage sk msg salt mseed tries sig work r sig′ work′ → r ≡ 0
+    → (n : ℕ) × SignedWith sk msg salt mseed tries sig′ n × FieldsOf sk msg salt mseed n sig′
+signature-fields {sk} {msg} {salt} {mseed} {tries} {sig′ = sig′} c h =
+    let s = signature-bytes c h in
+    fields-signed sk msg salt mseed (s .sized .sk-88) (s .sized .salt-16) (s .sized .mseed-16) tries sig′ (s .bytes)
 
 -- ---- checking
 

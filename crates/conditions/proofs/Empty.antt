@@ -15,8 +15,8 @@ use Rattle.mqom.specs.Words.{KeygenSized, SignSized, CheckSized}
 use Rattle.mqom.specs.Fields.{saltIn, pathIn, hiddenCommitmentIn, correctionIn}
 use Rattle.mqom.proofs.Exactly.{keygen-exactly-0, keygen-exactly-1, sign-exactly-1, sign-exactly-3, check-exactly-1, check-exactly-2}
 use Rattle.mqom.proofs.Search.{SignedWith}
-use Rattle.mqom.proofs.Made.{FieldsOf, fields-signed}
-use Rattle.conditions.proofs.Condition2.{signature-bytes}
+use Rattle.mqom.proofs.Made.{FieldsOf}
+use Rattle.conditions.proofs.Condition2.{signature-fields}
 
 -- ---- one number n for all inputs, whatever becomes of the lent buffers: refusing everything, doing nothing with number 0, one fixed
 -- signature, a check that always accepts. Empty inputs give 1, and inputs of the right lengths can give another number.
@@ -65,9 +65,7 @@ hidden sk msg salt mseed n = hiddenIn (signChallenge r3 sk msg salt mseed n)
 
 module _ {sk msg salt mseed : List ℕ} {tries : ℕ} {sig work sig′ work′ : List ℕ} (c : SignsMessage sk msg salt mseed tries sig work 0 sig′ work′) where
   made : (n : ℕ) × SignedWith sk msg salt mseed tries sig′ n × FieldsOf sk msg salt mseed n sig′
-  made =
-      let s = signature-bytes c refl in
-      fields-signed sk msg salt mseed (s .sized .sk-88) (s .sized .salt-16) (s .sized .mseed-16) tries sig′ (s .bytes)
+  made = signature-fields c refl
 
   -- repetition e is the first one again: only where the definition's own two are equal
   module _ (e : ℕ) (h : e < 17) where

@@ -31,8 +31,11 @@ same-length c = search needs
 returns : tie.Need-returns
 returns c =
     let st = c .before .before .before .before .before .before .before .before .before .before .before .before .before .before .before .before .before in
-    block-stored (st .args .s .now) (st .args .p) (st .args .k)
-    (c .before .before .before .before .before .before .before .before .before .before .before .before .before .before .store-word .ensures) (c .before .before .before .before .before .before .before .before .before .before .store-word2 .ensures) (c .before .before .before .before .before .before .store-word3 .ensures) (c .before .before .store-word4 .ensures)
+    let d = c .before .before in
+    let e = d .before .before .before .before in
+    let f = e .before .before .before .before in
+    let g = f .before .before .before .before in
+    block-stored (st .args .s .now) (st .args .p) (st .args .k) (g .store-word .ensures) (f .store-word2 .ensures) (e .store-word3 .ensures) (d .store-word4 .ensures)
 
 pub store-spec : {M : Type 1} → statement M
 store-spec =

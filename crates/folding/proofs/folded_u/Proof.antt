@@ -55,8 +55,12 @@ loop-again : tie.Need-loop-again Inv-loop μ-loop
 loop-again c =
     let s = c .before .before .before .before .before .before .args in
     let l = c .before .before .before .loop in
-    let same : 56 * l .j + 28 + s .i ≡ 56 * (l .j - 1 + 1) + (28 + s .i) = omega arith in
-    (omega arith, horner-byte (l .r) _ (vec (s .f .now) (56 * l .j + 28 + s .i)) (c .before .times-root .ensures) (omega (arith, c .shared-slice-known3 .given (56 * l .j + 28 + s .i))), horner-turn (λ j. vec (s .f .now) (56 * (j + 1) + (28 + s .i))) _ (l .r) _ _ _ (omega arith) (omega arith) (c .before .times-root .ensures) (ap (vec (s .f .now)) same) (l .inv .2))
+    let same : 56 * l .j + 28 + s .i ≡ 56 * (l .j - 1 + 1) + (28 + s .i) = omega arith in (
+      omega arith,
+      horner-byte (l .r) _ (vec (s .f .now) (56 * l .j + 28 + s .i)) (c .before .times-root .ensures) (omega (arith, c .shared-slice-known3 .given (56 * l .j + 28 + s .i))),
+      horner-turn (λ j. vec (s .f .now) (56 * (j + 1) + (28 + s .i))) _ (l .r) _ _ _ (omega arith) (omega arith) (c .before .times-root .ensures)
+          (ap (vec (s .f .now)) same) (l .inv .2),
+    )
 
 returns : tie.Need-returns Inv-loop μ-loop
 returns c = horner-end _ _ _ _ (omega arith) (c .before .loop .inv .1) (c .before .loop .inv .2)

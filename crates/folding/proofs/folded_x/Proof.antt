@@ -68,8 +68,12 @@ loop-again c =
     let s = c .before .before .before .before .before .before .before .before .args in
     let l = c .before .before .before .before .loop in
     let same : 56 * l .j ≡ 56 * (l .j - 1 + 1) = omega arith in
-    let all : 56 * l .j + 28 - 56 * l .j ≡ 28 = omega arith in
-    (omega arith, horner-byte (l .r) _ _ (c .before .before .times-root .ensures) (rw (c .lifted2 .ensures) (lifted-byte _ _)), horner-turn (λ j. lifted (part (56 * (j + 1)) 28 (s .f .now)) (s .k)) _ (l .r) _ _ _ (omega arith) (omega arith) (c .before .before .times-root .ensures) (c .lifted2 .ensures ∙ ap₂ (λ (o n : ℕ). lifted (part o n (s .f .now)) (s .k)) same all) (l .inv .2))
+    let all : 56 * l .j + 28 - 56 * l .j ≡ 28 = omega arith in (
+      omega arith,
+      horner-byte (l .r) _ _ (c .before .before .times-root .ensures) (rw (c .lifted2 .ensures) (lifted-byte _ _)),
+      horner-turn (λ j. lifted (part (56 * (j + 1)) 28 (s .f .now)) (s .k)) _ (l .r) _ _ _ (omega arith) (omega arith) (c .before .before .times-root .ensures)
+          (c .lifted2 .ensures ∙ ap₂ (λ (o n : ℕ). lifted (part o n (s .f .now)) (s .k)) same all) (l .inv .2),
+    )
 
 returns : tie.Need-returns Inv-loop μ-loop
 returns c = horner-end _ _ _ _ (omega arith) (c .before .loop .inv .1) (c .before .loop .inv .2)

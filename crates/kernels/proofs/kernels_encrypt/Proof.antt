@@ -41,7 +41,9 @@ same-length c = search needs
 returns-3 : tie.Need-returns-3
 returns-3 c =
     let a = c .before .before .before .before .before .before .before .before .before .before .before .before .before .before .before .before .args in
-    encrypts-done (omega arith) (omega arith) (c .before .before .each-block .ensures ∙ ap (λ (w : List ℕ). eachBlock w (a .buf .now)) (c .before .before .before .before .before .before .expand .ensures ∙ ap expandKey (c .before .before .before .before .before .before .before .load .ensures ∙ part-all 16 (a .key .now) (omega arith))))
+    let key = c .before .before .before .before .before .before .before .load .ensures ∙ part-all 16 (a .key .now) (omega arith) in
+    encrypts-done (omega arith) (omega arith)
+    (c .before .before .each-block .ensures ∙ ap (λ (w : List ℕ). eachBlock w (a .buf .now)) (c .before .before .before .before .before .before .expand .ensures ∙ ap expandKey key))
 
 pub kernels-encrypt-spec : {M : Type 1} → statement M
 kernels-encrypt-spec =

@@ -50,7 +50,9 @@ unfolding part
 returns c =
     let a = c .before .before .before .before .before .before .before .before .before .before .before .before .args in
     let y = c .before .before .before .before .before .before .copy .ensures in
-    both-parts 32 28 (a .pk .now) (c .before .before .before .before .before .before .copy .last .1 .0) (c .before .before .put-values .last .1 .1 .1 .0) (ap length y ∙ simp (length-take, length-drop) (omega arith)) (omega arith) ∙ ap₂ _++_ y (c .before .before .put-values .ensures)
+    let v = c .before .before .put-values in
+    both-parts 32 28 (a .pk .now) (c .before .before .before .before .before .before .copy .last .1 .0) (v .last .1 .1 .1 .0) (ap length y ∙ simp (length-take, length-drop) (omega arith)) (omega arith)
+    ∙ ap₂ _++_ y (v .ensures)
 
 pub put-public-spec : {M : Type 1} → statement M
 put-public-spec =

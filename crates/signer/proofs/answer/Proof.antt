@@ -51,6 +51,8 @@ slice-aggregate-write-signature-3 c = search needs
 
 write-signature-requires : tie.Need-write-signature-requires
 write-signature-requires c κs =
+    let second = c .before .before .before .before .before .before .before .before .before .before .before .before .before .before .before .before in
+    let first = second .before .before .before .before in
     let p = c .before .before .before .before .before .before .before .before .before .before .before .before .before .before .before .before .before .before .before .before .before .before .before .before .before .before .before .pre in (
       p .0,
       (
@@ -59,7 +61,7 @@ write-signature-requires c κs =
         sym (slice-aggregate-write-signature (c .before .before .before .before)),
         sym (slice-aggregate-write-signature-2 (c .before .before .before)),
         sym (slice-aggregate-write-signature-3 (c .before .before)),
-        c .before .before .before .before .before .before .before .before .before .before .before .before .before .before .before .before .second-commitment .kept .0 ∙ c .before .before .before .before .before .before .before .before .before .before .before .before .before .before .before .before .before .before .before .before .first-commitment .kept .0 ∙ p .1 .3,
+        second .second-commitment .kept .0 ∙ first .first-commitment .kept .0 ∙ p .1 .3,
         p .1 .2,
       ),
     )
@@ -84,7 +86,8 @@ returns c =
     λ m ok hm p.
     found-answers (a .sk .now) (a .msg .now) (a .salt .now) m (a .work .now) ok (f .result) (g .result) (h .result) (f .last .0) (g .last .0) _ _ (a .tries)
     (s .pre .1 .0) hm (s .pre .1 .3) p (f .ensures .0) (f .ensures .1) (g .ensures .0) (g .ensures .1) (h .ensures)
-    _ (a .sig .now) _ (sym (c .before .before .before .before .before .before .before .before .before .nonce .given .1) ∙ c .before .before .before .before .before .before .before .before .before .before .before .first-nonce .ensures) (c .before .before .write-signature .ensures)
+    _ (a .sig .now) _ (sym (c .before .before .before .before .before .before .before .before .before .nonce .given .1) ∙ c .before .before .before .before .before .before .before .before .before .before .before .first-nonce .ensures)
+    (c .before .before .write-signature .ensures)
 
 same-length-3 : tie.Need-same-length-3
 same-length-3 c = search needs

@@ -63,7 +63,9 @@ add-put-4 c = search needs
 put-requires-4 : tie.Need-put-requires-4
 put-requires-4 c κs =
     let b = c .before .before .before .before in
-    let l = ap length (b .put3 .ensures) ∙ length-place _ _ _ ∙ ap length (b .before .before .before .before .before .put2 .ensures) ∙ length-place _ _ _ ∙ ap length (b .before .before .before .before .before .before .before .before .before .before .put .ensures) ∙ length-place _ _ _ in
+    let p2 = b .before .before .before .before .before in
+    let p1 = p2 .before .before .before .before .before in
+    let l = ap length (b .put3 .ensures) ∙ length-place _ _ _ ∙ ap length (p2 .put2 .ensures) ∙ length-place _ _ _ ∙ ap length (p1 .put .ensures) ∙ length-place _ _ _ in
     omega (arith, l, c .before .before .before .before .before .before .before .before .before .before .before .before .before .before .before .before .before .before .before .before .before .before .pre, slice-aggregate-put-4 (c .before))
 
 same-length : tie.Need-same-length
@@ -73,7 +75,12 @@ returns : tie.Need-returns
 returns c =
     let b = c .before .before in
     let a = c .before .before .before .before .before .before .before .before .before .before .before .before .before .before .before .before .before .before .before .before .before .before .before .before .before .args in (
-      (sym (slice-aggregate-put (b .before .before .before .before .before .before .before .before .before .before .before .before .before .before .before .before .before)), sym (slice-aggregate-put-2 (b .before .before .before .before .before .before .before .before .before .before .before .before)), sym (slice-aggregate-put-3 (b .before .before .before .before .before .before .before)), sym (slice-aggregate-put-4 (b .before .before))),
+      (
+        sym (slice-aggregate-put (b .before .before .before .before .before .before .before .before .before .before .before .before .before .before .before .before .before)),
+        sym (slice-aggregate-put-2 (b .before .before .before .before .before .before .before .before .before .before .before .before)),
+        sym (slice-aggregate-put-3 (b .before .before .before .before .before .before .before)),
+        sym (slice-aggregate-put-4 (b .before .before)),
+      ),
       b .put4 .ensures
           ∙ ap (place (42145 + 12 * a .e) (a .l .correction))
           (b .before .before .before .before .before .put3 .ensures

@@ -41,7 +41,10 @@ put-requires-4 : tie.Need-put-requires-4
 put-requires-4 c κs =
     let s = c .before .before .before .before .before .before .before .before .before .before .before .before .before .before .before .before .before .before .before .before in
     let a = c .before .before .at-alpha1 in
-    let l = ap length (c .before .before .before .before .before .put3 .ensures) ∙ length-place _ _ _ ∙ ap length (c .before .before .before .before .before .before .before .before .before .put2 .ensures) ∙ length-place _ _ _ ∙ ap length (c .before .before .before .before .before .before .before .before .before .before .before .before .before .put .ensures) ∙ length-place _ _ _ in
+    let p3 = c .before .before .before .before .before in
+    let p2 = p3 .before .before .before .before in
+    let p1 = p2 .before .before .before .before in
+    let l = ap length (p3 .put3 .ensures) ∙ length-place _ _ _ ∙ ap length (p2 .put2 .ensures) ∙ length-place _ _ _ ∙ ap length (p1 .put .ensures) ∙ length-place _ _ _ in
     omega (arith, l, s .pre, length-slice (a .result) 476 (s .args .work .now) (omega (arith, a .ensures, s .pre)))
 
 same-length : tie.Need-same-length
@@ -53,8 +56,12 @@ returns c =
     let a = s .args in
     let p = s .pre in
     let v = c .before .before .before .before .before .at-alpha1 in
+    let p4 = c .before .before in
+    let p3 = p4 .before .before .before .before .before .before in
+    let p2 = p3 .before .before .before .before in
+    let p1 = p2 .before .before .before .before in
     let e = slice-at (v .result) atAlpha1 476 (v .ensures) (a .work .now) in
-    head-written (a .salt .now) (a .com1 .now) (a .com2 .now) _ (a .sig .now) (p .0) (p .1) (p .2) (c .before .before .before .before .before .before .before .before .before .before .before .before .before .before .before .before .put .ensures) (c .before .before .before .before .before .before .before .before .before .before .before .before .put2 .ensures) (c .before .before .before .before .before .before .before .before .put3 .ensures) (c .before .before .put4 .ensures)
+    head-written (a .salt .now) (a .com1 .now) (a .com2 .now) _ (a .sig .now) (p .0) (p .1) (p .2) (p1 .put .ensures) (p2 .put2 .ensures) (p3 .put3 .ensures) (p4 .put4 .ensures)
     ∙ ap (λ (l : List ℕ). place 0 (a .salt .now ++ (a .com1 .now ++ (a .com2 .now ++ l))) (a .sig .now)) e
 
 pub write-head-spec : {M : Type 1} → statement M

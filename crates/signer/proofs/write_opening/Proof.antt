@@ -89,7 +89,8 @@ returns c =
     let l = lent (556 + 128 * a .e) (556 + 128 * a .e) 128 refl (r .last .1 .1 .1 .1 .1 .1 .0) (a .sig .now) (omega (arith, s .pre)) (r .kept .1 .1 .1 .1 .1 .1 .0) in
     λ m g.
     let v = r .ensures m (c .before .before .before .before .before .before .before .before .before .before .before .before .before .before .load .ensures ∙ g .roots (a .e) (s .pre .1 .4)) in
-    opening-written m _ (a .x .now) (λ k. a .hidden) (a .e) (a .work .now) (a .sig .now) _ _ _ _ _ _ _ (s .pre .1 .4) g l (v .path-is) (v .out-is) (c .before .before .before .before .before .before .before .put .ensures) (slice-is (atSent + 12 * a .e) 12 (a .work .now)) (c .before .before .put2 .ensures)
+    opening-written m _ (a .x .now) (λ k. a .hidden) (a .e) (a .work .now) (a .sig .now) _ _ _ _ _ _ _ (s .pre .1 .4) g l (v .path-is) (v .out-is)
+    (c .before .before .before .before .before .before .before .put .ensures) (slice-is (atSent + 12 * a .e) 12 (a .work .now)) (c .before .before .put2 .ensures)
 
 pub write-opening-spec : {M : Type 1} → statement M
 write-opening-spec =
