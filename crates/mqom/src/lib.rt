@@ -5,8 +5,14 @@ ghost use Rattle.mqom.specs.Calls.{MakesKeys, SignsMessage, ChecksSignat
 
 pub mod fields;
 
-// Key generation. Of a key seed of 32 bytes: the public key in pk, 60 bytes, and the secret key in sk, 88 bytes; 65,536 bytes of workspace.
-// 0: done. 1: a length is another.
+// Key generation.
+//
+// seed: a key seed of 32 bytes.
+// pk, sk: lent at 60 and 88 bytes. With number 0 they hold the public key and the secret key afterwards, with 1 they are untouched.
+// work: lent at 65,536 bytes. With number 0 it is all zero afterwards, with 1 untouched.
+//
+//   0  done
+//   1  seed, pk, sk or work has another length
 pub fn make_keys(seed: &[u8], pk: &mut [u8], sk: &mut [u8], work: &mut [u8]) -> u8
     ensures { λ r. ⌜ MakesKeys (now (seed .entry)) (now (pk .entry)) (now (sk .entry)) (now (work .entry)) r (now (pk .exit)) (now (sk .exit)) (now (work .exit)) ⌝ }
 {
@@ -27,10 +33,20 @@ pub fn make_keys(seed: &[u8], pk: &mut [u8], sk: &mut [u8], work: &mut [u8]) -> 
     0
 }
 
-// Signing. Of a secret key of 88 bytes, a message of 0 to 65,536, a salt and a master seed of 16 each, with 1 to 1,048,576 allowed tries: the
-// signature in sig, 3484 bytes; 65,536 bytes of workspace.
-// 0: done. 1: a length is another. 2: the message is longer. 3: the allowed tries are 0 or above 1,048,576. 4: the secret solution does not
-// satisfy the equations that the secret key carries. 5: none of the allowed tries passes; more of them, up to the limit, may.
+// Signing.
+//
+// sk, msg, salt, mseed: a secret key of 88 bytes, a message of 0 to 65,536, a salt and a master seed of 16 each.
+// tries: how many nonces may be tested, 1 to 1,048,576.
+// sig: lent at 3484 bytes. With number 0 it holds the signature afterwards, with any other it is untouched.
+// work: lent at 65,536 bytes. With 1, 2 and 3 it is untouched, with any other number all zero afterwards.
+//
+// The lowest number that applies is given:
+//   0  done
+//   1  sk, salt, mseed, sig or work has another length
+//   2  the message is above 65,536 bytes
+//   3  the allowed tries are 0 or above 1,048,576
+//   4  the secret solution does not satisfy the equations that the secret key carries
+//   5  none of the allowed tries passes; more of them, up to the limit, may
 pub fn sign(
     sk: &[u8],
     msg: &[u8],
@@ -71,8 +87,16 @@ pub fn sign(
     r
 }
 
-// Checking. Whether sig, 3484 bytes, is a signature of a message of 0 to 65,536 under a public key of 60; 65,536 bytes of workspace.
-// 0: accepted. 1: a length is another, so also a signature's. 2: the message is longer. 6: the specification's verification rejects.
+// Checking.
+//
+// pk, msg, sig: a public key of 60 bytes, a message of 0 to 65,536, a signature of 3484.
+// work: lent at 65,536 bytes. With 1 and 2 it is untouched, with any other number all zero afterwards.
+//
+// The lowest number that applies is given:
+//   0  accepted
+//   1  pk, sig or work has another length
+//   2  the message is above 65,536 bytes
+//   6  the specification's verification rejects
 pub fn check(pk: &[u8], msg: &[u8], sig: &[u8], work: &mut [u8]) -> u8
     ensures { λ r. ⌜ ChecksSignature (now (pk .entry)) (now (msg .entry)) (now (sig .entry)) (now (work .entry)) r (now (work .exit)) ⌝ }
 {

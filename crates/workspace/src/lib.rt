@@ -8,13 +8,9 @@ ghost use Rattle.octets.specs.Place.{place};
 ghost use Rattle.paper.specs.Symmetric.{hash as hashOf, selector as selectorOf, forAlphas, forCommitment};
 ghost use Rattle.workspace.specs.Map.{atVectors, atTree, atCom1, atHashes, atCom2, atAlpha0, atAlpha1};
 
-pub const SIZE: usize = 65536;
-
 pub const VECTORS: usize = 18304;
 
 pub const TREE: usize = 29248;
-
-pub const TREE_END: usize = 41537;
 
 pub const COM1: usize = 41600;
 
