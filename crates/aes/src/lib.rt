@@ -1,5 +1,7 @@
 // AES-128 (FIPS 197): key expansion, and encryption of a block under an expanded key. Both read a table that `tables::fill` makes once
 // and a caller lends. A key is expanded once, for as many blocks as it encrypts.
+#![tactic(auto)]
+
 pub mod tables;
 
 ghost use Rattle.std.specs.Prelude.{◌≡◌, [], ◌∷◌, ◌+◌, ◌/◌, ◌%◌, ◌<◌, ◌≤◌, length};

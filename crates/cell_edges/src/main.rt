@@ -1,5 +1,7 @@
 // Both sides of each edge of a key cell. A case that comes out otherwise ends the run, and each is proved to come out as it says;
 // the line that is written is their number.
+#![tactic(auto)]
+
 ghost use Rattle.std.specs.Prelude.{◌≡◌, ◌<◌};
 ghost use Rattle.cell_edges.specs.Edges.{Refused, Read, Unwritten, Written, Same};
 

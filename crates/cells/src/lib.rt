@@ -1,4 +1,6 @@
 // Key cells: the text form of a public key, 120 hexadecimal characters for its 60 bytes.
+#![tactic(auto)]
+
 ghost use Rattle.std.specs.Prelude.{◌≡◌, ◌+◌, ◌*◌, ◌<◌, length};
 ghost use Rattle.octets.specs.Lists.{vec, alike};
 ghost use Rattle.cells.specs.Character.{class_of, is_hex, hex_value};

@@ -1,4 +1,6 @@
 // check_file PUBLIC MESSAGE SIGNATURE: checks a file's signature, and prints the number.
+#![tactic(auto)]
+
 fn main() {
     if !files::given(os::arg_count(), 3) {
         files::print_number(1);

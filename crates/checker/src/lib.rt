@@ -1,5 +1,7 @@
 // The checker's work in the workspace (document 001, algorithm 5): the values at the opened points, the result lines there, both commitments
 // compared.
+#![tactic(auto)]
+
 ghost use Rattle.std.specs.Prelude.{◌≡◌, ℕ, ◌+◌, ◌*◌, ◌<◌, length};
 ghost use Rattle.octets.specs.Lists.{part, alike};
 ghost use Rattle.octets.specs.Place.{place};

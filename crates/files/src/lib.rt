@@ -1,4 +1,6 @@
 // Whole files by the place of their name among the arguments, and a number as a line.
+#![tactic(auto)]
+
 ghost use Rattle.std.specs.Prelude.{◌≡◌, false, ◌+◌, ◌*◌, ◌≤◌, ◌<◌, eqb, length};
 ghost use Rattle.io.specs.Counts.{IsPrefixLen};
 ghost use Rattle.files.specs.Files.{Loading, Storing, LineLong, IsLine, low_first};

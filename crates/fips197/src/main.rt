@@ -1,6 +1,8 @@
 // The vectors of FIPS 197, and blocks of our own, in hexadecimal, sixteen bytes to a line: the expanded key of appendix A.1, the
 // ciphertexts of appendix B and of appendix C.1, and for each of 12 keys the last of 20 blocks encrypted in a chain, each added to the
 // ciphertext before it.
+#![tactic(auto)]
+
 ghost use Rattle.std.specs.Prelude.{◌≡◌, ◌+◌, ◌≤◌, length};
 ghost use Rattle.aes.specs.Words.{Table};
 

@@ -1,6 +1,8 @@
 // SHAKE128 on messages and outputs whose lengths stand around 0 and the rate's multiples, each message absorbed whole and in parts.
 // A line for each: the call, the message's length, the length of its parts, the output's length, the output. tests/fips202.py prints
 // the same lines with another library.
+#![tactic(auto)]
+
 ghost use Rattle.std.specs.Prelude.{◌≡◌, ◌<◌, ◌≤◌, length};
 ghost use Rattle.shake.specs.Shake.{shake128};
 ghost use Rattle.shake.specs.Held.{fed};

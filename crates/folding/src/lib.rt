@@ -1,5 +1,7 @@
 // BLC.ComputeFolding (document 001, 2.5.2, algorithm 13) for 256 leaves, and what algorithms 10 and 12 make of its values. Its variables lie in
 // a buffer of nine rows of 56 bytes: acc, then fd_j for each j < 8. In a row 28 bytes belong to x, two elements of F to a byte, and 28 to u.
+#![tactic(auto)]
+
 ghost use Rattle.std.specs.Prelude.{◌≡◌, ◌<◌, length};
 ghost use Rattle.octets.specs.Lists.{tab};
 ghost use Rattle.algebra.specs.Folding.{position as position_of};

@@ -1,5 +1,7 @@
 // The GGM tree routines of document 001 (2.5.3, algorithms 14 to 16) over SeedDerive, by halves: a tree is expanded from its root,
 // opened at a leaf, and rebuilt from a sibling path. keys are a tree's twelve (seeds::tree_keys); those of layers 1 to 7 are read.
+#![tactic(auto)]
+
 ghost use Rattle.std.specs.Prelude.{◌≡◌, [], ◌+◌, ◌-◌, ◌*◌, ◌^◌, ◌<◌, ◌≤◌, length, get_or};
 ghost use Rattle.octets.specs.Lists.{flat};
 ghost use Rattle.aes.specs.Words.{block_of, Table};

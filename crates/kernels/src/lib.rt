@@ -1,5 +1,7 @@
 // The cipher, the hash and the field's two loops over vectors, for a program in C that times them. No call asks anything of its caller: a
 // wrong length is answered by a number.
+#![tactic(auto)]
+
 ghost use Rattle.std.specs.Prelude.{◌≡◌, ◌%◌, length};
 ghost use Rattle.aes.specs.Words.{Table};
 ghost use Rattle.shake.specs.Shake.{shake128};

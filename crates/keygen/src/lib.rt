@@ -1,4 +1,6 @@
 // KeyGen (algorithm 1), in the workspace: its first 18,304 bytes hold the expanded keys of PRG (0, 0, .).
+#![tactic(auto)]
+
 ghost use Rattle.std.specs.Prelude.{◌≡◌, ◌++◌, ℕ, ◌<◌, length};
 ghost use Rattle.octets.specs.Lists.{part};
 ghost use Rattle.algebra.specs.Line.{form, equation_in};

@@ -1,5 +1,7 @@
 // The batch line commitment (document 001, 2.5.2, algorithms 10 to 12) of one repetition: its tree is worked in a room of 12289 bytes that the
 // caller lends, of which nothing is said afterwards but its length.
+#![tactic(auto)]
+
 ghost use Rattle.std.specs.Prelude.{◌≡◌, List, ℕ, ◌+◌, ◌*◌, ◌<◌, length};
 ghost use Rattle.octets.specs.Lists.{vec, part};
 ghost use Rattle.octets.specs.Place.{place};

@@ -1,4 +1,6 @@
 // make_key SEED PUBLIC SECRET: makes the key pair of a key seed, and prints the number.
+#![tactic(auto)]
+
 fn main() {
     if !files::given(os::arg_count(), 3) {
         files::print_number(1);

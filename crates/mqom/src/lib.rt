@@ -1,6 +1,8 @@
 // MQOM v2.1, set MQOM2-L1-gf16-fast-r3: what a user calls. Each call is lent its outputs and a workspace at exactly their length and gives
 // a number; the lowest that applies. With 1, 2 and 3 nothing is touched. Else the workspace is all zero afterwards, and outputs are written
 // with 0 alone. All randomness is an input: a key seed, a salt and a master seed must be drawn anew, at random, for each use.
+#![tactic(auto)]
+
 ghost use Rattle.mqom.specs.Calls.{MakesKeys, SignsMessage, ChecksSignature};
 
 pub mod fields;

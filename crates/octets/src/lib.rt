@@ -1,4 +1,6 @@
 // Buffers of bytes: clear, fill, copy, put, compare.
+#![tactic(auto)]
+
 ghost use Rattle.std.specs.Prelude.{◌≡◌, ◌+◌, ◌≤◌, length, replicate};
 ghost use Rattle.octets.specs.Lists.{alike};
 ghost use Rattle.octets.specs.Place.{place};

@@ -1,5 +1,7 @@
 // read_cell CELL PUBLIC: makes the public key that a cell names, and prints the number. The file holds the cell's characters and
 // nothing else: no line end is cut off.
+#![tactic(auto)]
+
 fn main() {
     if !files::given(os::arg_count(), 2) {
         files::print_number(1);

@@ -1,5 +1,7 @@
 // The seed routines of document 001 (2.5.4) over aes, and the selectors of its domain separation (2.5.5) as a table indexed by purpose.
 // A seed, a salt and a key are four columns (aes::Cols), by value; an expanded key is 176 bytes.
+#![tactic(auto)]
+
 ghost use Rattle.std.specs.Prelude.{◌≡◌, ◌+◌, ◌*◌, ◌<◌, ◌≤◌, length};
 ghost use Rattle.octets.specs.Lists.{zero16};
 ghost use Rattle.octets.specs.Place.{place};

@@ -1,4 +1,6 @@
 // SHAKE128 of FIPS 202: a sponge that takes a message in parts, and the calls for a whole one.
+#![tactic(auto)]
+
 mod keccak;
 
 ghost use Rattle.std.specs.Prelude.{◌≡◌, [], ◌∷◌, ◌+◌, ◌*◌, ◌^◌, ◌<◌, ◌≤◌, length};

@@ -1,5 +1,7 @@
 // show_cell PUBLIC: prints the cell of a public key, its 120 characters and no line end, so that what is printed is a file for
 // read_cell; where there is none, the number as a line.
+#![tactic(auto)]
+
 use libc::STDOUT_FILENO;
 
 fn main() {

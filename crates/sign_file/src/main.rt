@@ -1,5 +1,7 @@
 // sign_file SECRET MESSAGE SALT MASTER TRIES SIGNATURE: signs a file, and prints the number. A buffer has a byte more than its file may
 // have, so that the call sees a file that is too long.
+#![tactic(auto)]
+
 fn main() {
     if !files::given(os::arg_count(), 6) {
         files::print_number(1);

@@ -1,4 +1,6 @@
 // The signer's work in the workspace (document 001, algorithm 3): commitments, result lines, the challenge, the openings.
+#![tactic(auto)]
+
 ghost use Rattle.std.specs.Prelude.{◌≡◌, List, ◌++◌, Bool, ℕ, ◌+◌, ◌*◌, ◌<◌, ◌≤◌, length};
 ghost use Rattle.octets.specs.Lists.{part, joined, bytes_of};
 ghost use Rattle.octets.specs.Place.{place};

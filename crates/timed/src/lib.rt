@@ -1,4 +1,6 @@
 // The library's calls, for a program in C that times them: each is the call of the same name, with its contract.
+#![tactic(auto)]
+
 ghost use Rattle.std.specs.Prelude.{◌≡◌};
 ghost use Rattle.octets.specs.Lists.{alike};
 ghost use Rattle.cells.specs.Cell.{CellRead, CellWritten};

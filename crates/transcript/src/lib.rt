@@ -1,5 +1,7 @@
 // The Fiat-Shamir hash and SampleChallenge of document 001 (algorithm 3, line 9; algorithm 4). Every hash input but the message is a flat
 // buffer that starts with its selector.
+#![tactic(auto)]
+
 ghost use Rattle.std.specs.Prelude.{◌≡◌, ◌∷◌, ◌++◌, ◌+◌, ◌≤◌, length};
 ghost use Rattle.octets.specs.Lists.{part, bytes_of};
 ghost use Rattle.octets.specs.Place.{place};
