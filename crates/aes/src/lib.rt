@@ -13,7 +13,7 @@ ghost use Rattle.aes.specs.Cipher.{sub_bytes, shift_rows, mix_column, mix_column
 ghost use Rattle.aes.specs.Words.{block_of, Table, NextKey};
 
 // A block as its four columns, each with its first byte lowest.
-#[derive(Drop)]
+#[derive(Clone, Copy)]
 pub struct Cols {
     pub a: u32,
     pub b: u32,

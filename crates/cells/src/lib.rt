@@ -11,7 +11,7 @@ const KEY: usize = 60;
 const CELL: usize = 2 * KEY;
 
 // The classes of a character: 0 to 9, a to f, A to F, each with the digit's value, and anything else.
-#[derive(Drop)]
+#[derive(Clone, Copy)]
 enum Class {
     Digit(u8),
     Lower(u8),

@@ -12,7 +12,7 @@ ghost use Rattle.paper.specs.Scheme.{transcript as transcriptOf};
 ghost use Rattle.transcript.specs.Search.{search_of};
 
 // What the search yields: the first nonce that passes, or that the allowed tries are used.
-#[derive(Drop)]
+#[derive(Clone, Copy)]
 pub enum Search {
     Found(u32),
     Spent,

@@ -1,0 +1,16 @@
+-- `field::mul` meets its contract: `r` and what is left of the sum make the product.
+-- Assumes nothing.
+use mathlib.Core.Path.{◌≡◌}
+use Prim.Native.Nat.{◌-◌, ◌≤◌, ◌<◌}
+use native.Mathlib.Omega.{arith}
+use borrow.Author.Rules.{rules}
+use Rattle.octets.specs.Xor.{◌⊕◌}
+use Rattle.field.specs.Gf.{shift_add, ◌⊗◌}
+use Rattle.field.proofs.Steps.{mul-turn, mask-turn, mask_lt, root-shift, root-shift-lt, mul-start, mul-end}
+use Rattle.field.proofs.mul.Given as goal
+
+abbrev pub invariant-loop-i : goal.invariant-loop-i
+invariant-loop-i l = (l.i ≤ 8) × (l.x < 256) × (l.r ⊕ shift_add 7 27 (8 - l.i) l.x l.y ≡ l.a ⊗ l.b)
+
+abbrev pub decreases-loop-i : goal.decreases-loop-i
+decreases-loop-i l = 8 - l.i
