@@ -1,8 +1,8 @@
 #!/usr/bin/env python3
-"""reasons.py LOGS: each must-fail edit was refused for the fact that it names, not for the shape of the code.
+"""reasons.py LOG: each must-fail edit was refused for the fact that it names, not for the shape of the code.
 
-An edit has a line 'fact: NAME: WORDS': NAME is the theorem or need that the prover refuses first, WORDS stand in what it says of it, with
-each chain of ' .before' written ' ..'. LOGS is the folder in which rt keeps what it printed of each edit. The last line is 'N passed, M failed'."""
+An edit has a line 'fact: NAME: WORDS': NAME is the theorem or goal that the prover refuses first, WORDS stand in what rt prints of it. LOG
+is what `rt ci` printed; of a refusal it has the first 160 characters. The last line is 'N passed, M failed'."""
 import glob
 import os
 import re
@@ -12,37 +12,37 @@ sys.dont_write_bytecode = True
 from tally import finish, tell
 
 # what is said where an edit breaks a proof's words before any fact
-SHAPE = ["has no field", "is not in scope", "that can be named from here", "expected type `tie.Need-", "was not admitted", "was not determined"]
+SHAPE = ["has no field", "is not in scope", "that can be named from here", "expected type `goal.", "was not admitted", "was not determined"]
+SAID = 160
 
 
-def refusal(log):
-    """The name of what is refused first, and all that is said of it."""
-    lines = open(log, encoding="utf8").read().split("\n")
-    for at, line in enumerate(lines):
-        if m := re.match(r"\S+: error: `([^`]+)`: (.*)", line):
-            said = [m.group(2)]
-            for more in lines[at + 1:]:
-                if not more.startswith("  "):
-                    break
-                said.append(more.strip())
-            return m.group(1), re.sub(r"( \.before)+", " ..", " ".join(said))
-        if m := re.match(r"note: \S+:\d+:\d+: (.*) \(`([^`]+)`\)$", line):
-            return m.group(2), m.group(1)
-    return None, ""
+def refusal(told):
+    """The name of what is refused first, and what is printed of it."""
+    if m := re.match(r"\S+: error: `([^`]+)`: (.*)", told):
+        return m.group(1), m.group(2)
+    if m := re.match(r"note: \S+:\d+:\d+: (.*) \(`([^`]+)(`\))?$", told):
+        return m.group(2), m.group(1)
+    return "", told
 
+
+logged = {}
+for line in open(sys.argv[1], encoding="utf8"):
+    if m := re.match(r"rt: must-fail (\S+): refused, as it must be: (.*)", line.rstrip("\n")):
+        logged[m.group(1)] = m.group(2)
 
 for edit in sorted(glob.glob("crates/*/must-fail/*.edit")):
-    crate, label = edit.split("/")[1], os.path.basename(edit)[:-len(".edit")]
-    log = os.path.join(sys.argv[1], crate, label, ".log")
+    crate, label = edit.split("/")[1], os.path.basename(edit)
     facts = re.findall(r"^fact: ([^:\s]+): (\S.*)$", open(edit, encoding="utf8").read(), re.M)
     if len(facts) != 1:
         tell(False, f"{edit}: {len(facts)} lines 'fact: NAME: WORDS'")
         continue
-    if not os.path.exists(log):
-        tell(False, f"{edit}: no log {log}")
+    told = logged.get(f"{crate}/{label}")
+    if told is None:
+        tell(False, f"{edit}: {sys.argv[1]} has no refusal of it")
         continue
     name, words = facts[0]
-    refused, said = refusal(log)
+    refused, said = refusal(told)
+    whole = refused == name or len(told) >= SAID and refused and name.startswith(refused)
     shape = [s for s in SHAPE if s in said]
-    tell(refused == name and words in said and not shape, f"{edit}: refused first: {refused}: {said[:300]}")
+    tell(whole and words in said and not shape, f"{edit}: refused first: {refused}: {said}")
 finish()
