@@ -1,0 +1,10 @@
+-- `seeds::derive` meets its contract. Assumes nothing.
+use mathlib.Core.Path.{ap₂, ◌∙◌}
+use Rattle.octets.specs.Xor.{xor_b}
+use Rattle.seeds.specs.Expanded.{derive_with}
+use borrow.Author.Rules.{rules}
+use Rattle.seeds.proofs.derive.Goals as goal
+
+pub returns : goal.returns
+unfolding derive_with
+returns c = c.add.ensures ∙ ap₂ xor_b c.encrypt_cols-y.ensures c.psi-z.ensures

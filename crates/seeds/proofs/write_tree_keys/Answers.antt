@@ -1,0 +1,29 @@
+-- `seeds::write_tree_keys` meets its contract: before turn k the first k keys stand. Assumes nothing.
+use mathlib.Core.Path.{◌≡◌, refl, ◌∙◌}
+use Prim.Native.Nat.{◌-◌, ◌*◌, ◌≤◌}
+use native.Mathlib.Omega.{arith}
+use lib.ListN.{length}
+use Rattle.octets.specs.Lists.{part, joined}
+use Rattle.aes.specs.Words.{block_of}
+use Rattle.seeds.specs.Expanded.{tree_key, tree_keys}
+use Rattle.seeds.proofs.Keys.{length-tree_key, keys_none, keys-turn, keys-all}
+use borrow.Author.Rules.{rules}
+use Rattle.seeds.proofs.write_tree_keys.Goals as goal
+
+pub loop-k-init : goal.loop-k-init
+loop-k-init c = (omega arith, refl, keys_none _ _)
+
+pub loop-k-preserved : goal.loop-k-preserved
+loop-k-preserved c = let b = c in
+    let l = c.loop-k in
+    let p = c.put_tree_key in (
+      omega arith,
+      omega arith,
+      keys-turn (tree_key (block_of b.args.salt) b.args.e) 12 l.k _ l.out p.ensures refl (length-tree_key _ _ _) (omega arith) (omega arith) l.invariant.2,
+    )
+
+pub returns : goal.returns
+unfolding tree_keys
+returns c = let b = c in
+    let l = c.loop-k in
+    keys-all (tree_key (block_of b.args.salt) b.args.e) 12 l.k l.out (omega arith) l.invariant.0 (omega arith) l.invariant.2

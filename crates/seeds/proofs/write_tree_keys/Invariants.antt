@@ -1,0 +1,17 @@
+-- `seeds::write_tree_keys` meets its contract: before turn k the first k keys stand. Assumes nothing.
+use mathlib.Core.Path.{◌≡◌, refl, ◌∙◌}
+use Prim.Native.Nat.{◌-◌, ◌*◌, ◌≤◌}
+use native.Mathlib.Omega.{arith}
+use lib.ListN.{length}
+use Rattle.octets.specs.Lists.{part, joined}
+use Rattle.aes.specs.Words.{block_of}
+use Rattle.seeds.specs.Expanded.{tree_key, tree_keys}
+use Rattle.seeds.proofs.Keys.{length-tree_key, keys_none, keys-turn, keys-all}
+use borrow.Author.Rules.{rules}
+use Rattle.seeds.proofs.write_tree_keys.Given as goal
+
+abbrev pub invariant-loop-k : goal.invariant-loop-k
+invariant-loop-k l = (l.k ≤ 12) × (length l.out ≡ length l.initial.out) × (part 0 (176 * l.k) l.out ≡ joined l.k (tree_key (block_of l.salt) l.e))
+
+abbrev pub decreases-loop-k : goal.decreases-loop-k
+decreases-loop-k l = 12 - l.k
