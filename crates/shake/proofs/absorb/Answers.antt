@@ -1,9 +1,9 @@
 -- `shake::absorb` meets its contract: before each turn the first i bytes of the text are fed. Assumes nothing.
-use mathlib.Core.Path.{◌≡◌, ap, ◌∙◌}
+use mathlib.Core.Path.{ap, ◌∙◌}
 use mathlib.Core.List.{List, ◌++◌}
-use Prim.Native.Nat.{ℕ, ◌<◌, ◌≤◌}
+use Prim.Native.Nat.{ℕ, ◌≤◌}
 use native.Mathlib.Omega.{arith}
-use lib.ListN.{length, take}
+use lib.ListN.{length}
 use lib.Seq.{take_all}
 use Rattle.shake.specs.Held.{sponge, fed}
 use Rattle.shake.proofs.Blocks.{held, fed-next, fed-turn}

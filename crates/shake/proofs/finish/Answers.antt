@@ -2,7 +2,6 @@
 use mathlib.Core.Path.{ap, ◌∙◌}
 use mathlib.Core.List.{List}
 use Prim.Native.Nat.{ℕ}
-use borrow.Author.Rules.{rules}
 use Rattle.shake.specs.Keccak.{keccak_f}
 use Rattle.shake.specs.Shake.{xor_byte}
 use Rattle.shake.specs.declared.Sponge.{Sponge}

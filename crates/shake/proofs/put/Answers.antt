@@ -7,12 +7,12 @@ use native.Mathlib.Omega.{arith}
 use lib.Pow.{shl_exact}
 use Rattle.octets.specs.Xor.{◌⊕◌}
 use Rattle.shake.specs.Shake.{xor_lane}
-use borrow.Author.Rules.{rules}
 use Rattle.shake.proofs.put.Goals as goal
 
 pub returns : goal.returns
 unfolding ◌⊕◌ xor_lane
-returns c = let j = c.args.j in
+returns c =
+    let j = c.args.j in
     let b = c.args.b in
     let a = c.args.a.now in
     let low : b < 2 ^ 8 = omega arith in

@@ -1,12 +1,8 @@
 -- `shake::put_block` meets its contract: before turn k the first k lanes are added. Assumes nothing.
-use mathlib.Core.Path.{◌≡◌, ap, ◌∙◌}
-use mathlib.Core.List.{List}
-use Prim.Native.Nat.{ℕ, ◌≤◌, ◌-◌, ◌+◌, ◌*◌}
-use native.Mathlib.Omega.{arith}
-use lib.ListN.{length}
+use mathlib.Core.Path.{◌≡◌}
+use Prim.Native.Nat.{◌≤◌, ◌-◌, ◌*◌}
 use Rattle.octets.specs.Lists.{part}
 use Rattle.shake.specs.Shake.{xor_bytes}
-use Rattle.shake.proofs.Lanes.{block_none, block_more}
 use Rattle.shake.proofs.put_block.Given as goal
 
 abbrev pub invariant-loop-k : goal.invariant-loop-k

@@ -1,6 +1,6 @@
 -- `shake::squeeze` meets its contract: before turn i the first i bytes of the output are written. Assumes nothing.
-use mathlib.Core.Path.{◌≡◌, refl, sym, ◌∙◌}
-use Prim.Native.Nat.{ℕ, ◌<◌, ◌≤◌}
+use mathlib.Core.Path.{refl, sym, ◌∙◌}
+use Prim.Native.Nat.{◌<◌}
 use native.Mathlib.Omega.{arith}
 use lib.ListN.{length, length-set}
 use Rattle.octets.proofs.Write.{written_none, fill-turn, fill_end}
@@ -25,10 +25,10 @@ loop-i-preserved c =
     let d = length c.args.out.now in
     -- where the arms of the `if` meet, the block has a byte left
     let met : Squeezing c.args.lanes c.loop-i.i c.if-j-eq168.a c.if-j-eq168.j × (c.if-j-eq168.j < 168) =
-        elim c.if-j-eq168.branch [
-          then-j-eq168 w ↦ (squeezing-turn inv.squeezing w.if-j-eq168.true (w.a-is ∙ w.keccak_f.ensures) w.j-is, omega arith)
-        | else-j-eq168 w ↦ (squeezing-kept inv.squeezing w.a-is w.j-is, omega arith)
-        ]
+    elim c.if-j-eq168.branch [
+      | then-j-eq168 w ↦ (squeezing-turn inv.squeezing w.if-j-eq168.true (w.a-is ∙ w.keccak_f.ensures) w.j-is, omega arith)
+      | else-j-eq168 w ↦ (squeezing-kept inv.squeezing w.a-is w.j-is, omega arith)
+    ]
     in
     record {
       upto = omega arith;

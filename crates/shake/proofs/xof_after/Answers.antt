@@ -3,12 +3,16 @@ use mathlib.Core.Path.{◌∙◌}
 use mathlib.Core.List.{[], ◌∷◌}
 use lib.ListN.{length}
 use Rattle.shake.proofs.Shake.{shake128-parts}
-use borrow.Author.Rules.{rules}
 use Rattle.shake.proofs.xof_after.Goals as goal
 
 pub returns : goal.returns
-returns c = let f = c in
-    let a = f in
-    let s = a in
+returns c =
     c.squeeze.ensures
-    ∙ shake128-parts (s.args.first ∷ []) s.args.text.now (length s.args.out.now) a.start.ensures a.absorb-s.ensures f.absorb.ensures f.finish.ensures
+    ∙ shake128-parts
+    (c.args.first ∷ [])
+    c.args.text.now
+    (length c.args.out.now)
+    c.start.ensures
+    c.absorb-s.ensures
+    c.absorb.ensures
+    c.finish.ensures

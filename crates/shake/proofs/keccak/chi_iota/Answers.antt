@@ -1,6 +1,5 @@
 -- `shake::keccak::chi_iota` meets its contract. Assumes nothing.
 use mathlib.Core.Path.{refl}
-use borrow.Author.Rules.{rules}
 use Rattle.octets.specs.Xor.{◌⊕◌}
 use Rattle.octets.specs.Lists.{tab}
 use Rattle.shake.specs.Keccak.{unless, chi, iota}

@@ -1,13 +1,8 @@
 -- `shake::keccak::keccak_f` meets its contract: before turn i what is left are the rounds of the constants from i on. Assumes nothing.
-use mathlib.Core.Path.{◌≡◌, refl, sym, ap, subst, ◌∙◌}
-use mathlib.Core.List.{List}
-use Prim.Native.Nat.{ℕ, ◌≤◌, ◌<◌, ◌-◌, ◌+◌}
-use native.Mathlib.Omega.{arith}
-use native.Mathlib.Numerals.{add-one}
-use borrow.Author.Rules.{rules}
-use lib.ListN.{drop, get_or}
-use lib.Seq.{drop-cons}
-use Rattle.shake.specs.Keccak.{round, rounds, constants, keccak_f}
+use mathlib.Core.Path.{◌≡◌}
+use Prim.Native.Nat.{◌≤◌, ◌-◌}
+use lib.ListN.{drop}
+use Rattle.shake.specs.Keccak.{rounds, constants, keccak_f}
 use Rattle.shake.proofs.keccak.keccak_f.Given as goal
 
 abbrev pub invariant-loop-i : goal.invariant-loop-i

@@ -1,6 +1,5 @@
 -- `shake::keccak::rho_pi` meets its contract. Assumes nothing.
 use mathlib.Core.Path.{refl}
-use borrow.Author.Rules.{rules}
 use Rattle.octets.specs.Lists.{tab}
 use Rattle.shake.specs.Keccak.{rot, offsets, rho, pi}
 use Rattle.shake.proofs.keccak.rho_pi.Goals as goal
