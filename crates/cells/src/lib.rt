@@ -19,6 +19,7 @@ enum Class {
     Other,
 }
 
+#[tactic(auto, unfolding(crate::specs::Character::class_of, crate::specs::Character::between))]
 fn class_of(c: u8) -> Class
     ensures { result ≡ class_of c }
 {
@@ -30,6 +31,7 @@ fn class_of(c: u8) -> Class
     }
 }
 
+#[tactic(auto, unfolding(crate::specs::Character::is_hex))]
 fn is_hex(c: u8) -> bool
     ensures { result ≡ is_hex c }
 {
@@ -41,6 +43,7 @@ fn is_hex(c: u8) -> bool
     }
 }
 
+#[tactic(auto, unfolding(crate::specs::Character::hex_value))]
 fn hex_value(c: u8) -> u8
     ensures { result ≡ hex_value c }
 {
@@ -98,6 +101,7 @@ fn read_bytes(cell: &[u8], out: &mut [u8])
 //   0  done
 //
 // It does not say whether the bytes are a key that key generation makes: 120 zeros are read as 60 zero bytes.
+#[tactic(auto, unfolding(crate::specs::Cell::read_number, crate::specs::Cell::read_output))]
 pub fn read_cell(cell: &[u8], out: &mut [u8]) -> u8
     ensures { CellRead cell.now out.old result out.new }
 {
@@ -114,6 +118,7 @@ pub fn read_cell(cell: &[u8], out: &mut [u8]) -> u8
     0
 }
 
+#[tactic(auto, unfolding(crate::specs::Cell::hex_char))]
 fn hex_char(v: u8) -> u8
     requires { v < 16 }
     ensures { result ≡ hex_char v }
@@ -142,6 +147,7 @@ fn write_text(key: &[u8], out: &mut [u8])
 //
 //   1  key is not of 60 bytes, or out is not of 120 bytes
 //   0  done
+#[tactic(auto, unfolding(crate::specs::Cell::write_number, crate::specs::Cell::write_output))]
 pub fn write_cell(key: &[u8], out: &mut [u8]) -> u8
     ensures { CellWritten key.now out.old result out.new }
 {

@@ -1,11 +1,8 @@
 -- `cells::all_hex` meets its contract: the answer is that of the characters not yet seen. Assumes nothing.
-use mathlib.Core.Path.{◌≡◌, refl, sym, ◌∙◌}
+use mathlib.Core.Path.{◌≡◌}
 use Prim.Native.Nat.{◌≤◌, ◌-◌}
-use native.Mathlib.Omega.{arith}
-use borrow.Author.Tests.{not-true, not-false}
 use lib.ListN.{length, drop}
 use Rattle.cells.specs.Cell.{all_hex}
-use Rattle.cells.proofs.Text.{hex-turn, hex-stop, hex-end}
 use Rattle.cells.proofs.all_hex.Given as goal
 
 abbrev pub invariant-loop-i : goal.invariant-loop-i

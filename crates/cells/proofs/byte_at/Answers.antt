@@ -3,7 +3,6 @@ use Prim.Native.Nat.{◌*◌, ◌+◌}
 use native.Mathlib.Omega.{arith}
 use Rattle.octets.specs.Lists.{vec}
 use Rattle.cells.proofs.Character.{value-lt}
-use borrow.Author.Rules.{rules}
 use Rattle.cells.proofs.byte_at.Goals as goal
 
 pub overflow_mul-result : goal.overflow_mul-result

@@ -1,10 +1,8 @@
 -- `cells::read_bytes` meets its contract: before turn i the first i bytes are written. Assumes nothing.
-use mathlib.Core.Path.{◌≡◌, refl, sym, ◌∙◌}
-use Prim.Native.Nat.{◌≤◌, ◌-◌}
+use mathlib.Core.Path.{refl, sym, ◌∙◌}
 use native.Mathlib.Omega.{arith}
 use lib.ListN.{length, length-set}
-use Rattle.octets.proofs.Write.{written, written_none, fill-turn, fill_end}
-use Rattle.cells.specs.Cell.{read_bytes}
+use Rattle.octets.proofs.Write.{written_none, fill-turn, fill_end}
 use Rattle.cells.proofs.Text.{length-read_bytes, vec-read_bytes}
 use Rattle.cells.proofs.read_bytes.Goals as goal
 

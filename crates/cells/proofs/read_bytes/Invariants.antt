@@ -1,11 +1,9 @@
 -- `cells::read_bytes` meets its contract: before turn i the first i bytes are written. Assumes nothing.
-use mathlib.Core.Path.{◌≡◌, refl, sym, ◌∙◌}
+use mathlib.Core.Path.{◌≡◌}
 use Prim.Native.Nat.{◌≤◌, ◌-◌}
-use native.Mathlib.Omega.{arith}
-use lib.ListN.{length, length-set}
-use Rattle.octets.proofs.Write.{written, written_none, fill-turn, fill_end}
+use lib.ListN.{length}
+use Rattle.octets.proofs.Write.{written}
 use Rattle.cells.specs.Cell.{read_bytes}
-use Rattle.cells.proofs.Text.{length-read_bytes, vec-read_bytes}
 use Rattle.cells.proofs.read_bytes.Given as goal
 
 abbrev pub invariant-loop-i : goal.invariant-loop-i

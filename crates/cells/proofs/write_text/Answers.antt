@@ -1,10 +1,9 @@
 -- `cells::write_text` meets its contract: before turn i the first 2i characters are written. Assumes nothing.
 use mathlib.Core.Path.{◌≡◌, refl, sym, ◌∙◌}
-use Prim.Native.Nat.{◌+◌, ◌*◌, ◌≤◌, ◌-◌}
+use Prim.Native.Nat.{◌+◌, ◌*◌}
 use native.Mathlib.Omega.{arith}
-use lib.ListN.{length, length-set}
-use Rattle.octets.proofs.Write.{written, written_none, fill-turn, fill_end}
-use Rattle.cells.specs.Cell.{write_text}
+use lib.ListN.{length-set}
+use Rattle.octets.proofs.Write.{written_none, fill-turn, fill_end}
 use Rattle.cells.proofs.Text.{length-write_text, write_text-high, write_text-low}
 use Rattle.cells.proofs.write_text.Goals as goal
 

@@ -1,11 +1,9 @@
 -- `cells::write_text` meets its contract: before turn i the first 2i characters are written. Assumes nothing.
-use mathlib.Core.Path.{◌≡◌, refl, sym, ◌∙◌}
-use Prim.Native.Nat.{◌+◌, ◌*◌, ◌≤◌, ◌-◌}
-use native.Mathlib.Omega.{arith}
-use lib.ListN.{length, length-set}
-use Rattle.octets.proofs.Write.{written, written_none, fill-turn, fill_end}
+use mathlib.Core.Path.{◌≡◌}
+use Prim.Native.Nat.{◌*◌, ◌≤◌, ◌-◌}
+use lib.ListN.{length}
+use Rattle.octets.proofs.Write.{written}
 use Rattle.cells.specs.Cell.{write_text}
-use Rattle.cells.proofs.Text.{length-write_text, write_text-high, write_text-low}
 use Rattle.cells.proofs.write_text.Given as goal
 
 abbrev pub invariant-loop-i : goal.invariant-loop-i
