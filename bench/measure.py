@@ -18,13 +18,13 @@ def told(*command):
 
 
 def archive(crate):
-    return f"target/staticlib/lib{crate}.a"
+    return f"crates/{crate}/out/lib{crate}.a"
 
 
 def build(program, crate, sources, libraries):
     """The crate proved and written as an archive, and the program in C linked with it."""
     os.makedirs(OUT, exist_ok=True)
-    told("rt", "staticlib", crate)
+    told("rt", "lib", crate)
     flags = ["-O3", "-std=gnu11", "-Wall", "-Wextra", "-Werror"]
     told(CC, *flags, "-o", f"{OUT}/{program}", *sources, archive(crate), *libraries, "-lpthread", "-Wl,-z,now")
     told(f"{OUT}/{program}", "check")

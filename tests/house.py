@@ -26,7 +26,7 @@ for line in open("crates.txt", encoding="utf8"):
     line = line.split("#")[0].strip()
     if line:
         name, _, imports = line.partition(":")
-        crates[name.strip()] = imports.split()
+        crates[name.split()[0]] = imports.split()
 
 for name, imports in crates.items():
     tell(name in floors, f"{name} has no floor in docs/4-house.md")
