@@ -1,0 +1,14 @@
+-- `transcript::first_nonce` meets its contract: no nonce below the present one passed. The measure is what is left of the tries.
+-- Assumes nothing.
+use mathlib.Core.Path.{sym, ◌∙◌}
+use Prim.Native.Nat.{◌-◌}
+use native.Mathlib.Omega.{arith}
+use borrow.Author.Rules.{rules}
+use Rattle.transcript.proofs.Nonces.{passing, Searching, searching-start, searching-test, searching-turn, search-found, search-spent}
+use Rattle.transcript.proofs.first_nonce.Given as goal
+
+abbrev pub invariant-loop-nonce : goal.invariant-loop-nonce
+invariant-loop-nonce l = Searching l.hash l.tries l.p l.nonce
+
+abbrev pub decreases-loop-nonce : goal.decreases-loop-nonce
+decreases-loop-nonce l = l.tries - l.nonce

@@ -1,0 +1,15 @@
+-- `transcript::put_hash` meets its contract. Assumes nothing.
+use mathlib.Core.Path.{refl, ap, ◌∙◌}
+use native.Mathlib.Omega.{arith}
+use lib.ListN.{length-set}
+use mathlib.Core.List.{◌∷◌}
+use Prim.Native.Nat.{ℕ}
+use Rattle.transcript.proofs.Inputs.{front-two}
+use borrow.Author.Rules.{rules}
+use Rattle.transcript.proofs.put_hash.Goals as goal
+
+pub returns : goal.returns
+returns c = let s = c in
+    let v = c.selector in
+    front-two 32 33 v.result s.args.hash.now s.args.p.now s.requires.0 refl (omega arith) c.put.ensures
+    ∙ ap (λ (x : ℕ). x ∷ s.args.hash.now) v.ensures

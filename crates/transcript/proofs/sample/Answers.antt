@@ -1,0 +1,10 @@
+-- `transcript::sample` meets its contract. Assumes nothing.
+use mathlib.Core.Path.{◌∙◌}
+use Rattle.transcript.proofs.Inputs.{challenge-flat}
+use borrow.Author.Rules.{rules}
+use Rattle.transcript.proofs.sample.Goals as goal
+
+pub returns : goal.returns
+returns c = let s = c in
+    c.xof.ensures
+    ∙ challenge-flat s.args.hash.now s.args.nonce.now _ c.put_hash.ensures s.requires.1 c.put_hash.auto.p c.put.ensures
