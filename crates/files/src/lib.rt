@@ -1,11 +1,19 @@
-// Whole files by the place of their name among the arguments, and a number as a line.
+// Whole files by the place of their name among the arguments, and a number as a line. std takes a path as text: a name that is not
+// UTF-8 counts as one that can't be read or written.
 #![tactic(auto)]
 
-ghost use Rattle.std.specs.Prelude.{◌≡◌, false, ◌+◌, ◌*◌, ◌≤◌, ◌<◌, eqb, length};
+ghost use Rattle.std.specs.Prelude.{◌≡◌, false, ◌+◌, ◌*◌, ◌≤◌, ◌<◌, eqb, length, OnOk};
 ghost use Rattle.io.specs.Counts.{IsPrefixLen};
 ghost use Rattle.files.specs.Files.{Loading, Storing, LineLong, IsLine, low_first};
 
-use libc::{STDERR_FILENO, STDOUT_FILENO};
+use io::decimal;
+use std::env::FillError;
+use std::fs::{File, OpenFile, OpenOptions, Permissions};
+use std::io::{Error, ErrorKind, Read, Write};
+use std::os::unix::fs::{OpenOptionsExt, PermissionsExt};
+use std::random::RandomSource;
+use std::rt::{Env, Files};
+use std::{fmt, fs, str};
 
 // What a program prints where the call's number is 0 and an output could not be written. It stands in no table of the library.
 const UNWRITTEN: u8 = 9;
@@ -13,6 +21,22 @@ const UNWRITTEN: u8 = 9;
 const FOR_ALL: u32 = 0o644;
 
 const FOR_THE_OWNER: u32 = 0o600;
+
+// The longest name that the system takes.
+const LONGEST: usize = 4095;
+
+// How many names a new file may find taken.
+const TRIES: usize = 256;
+
+// How many words the program was started with, its own name among them.
+pub fn word_count<R: Env>(rt: &R) -> usize {
+    for i in 0..usize::MAX {
+        if matches!(rt.arg(i, &mut []), Err(FillError::NotPresent)) {
+            return i;
+        }
+    }
+    usize::MAX
+}
 
 // Whether all words, the program's own name among them, are that name and n more.
 pub fn given(all: usize, n: usize) -> bool
@@ -24,6 +48,23 @@ pub fn given(all: usize, n: usize) -> bool
     all - 1 == n
 }
 
+// Puts argument i at the start of buf, and answers how long it is: 0 where it is missing or longer than buf.
+fn word<R: Env>(rt: &R, i: usize, buf: &mut [u8]) -> usize
+    ensures { IsPrefixLen result buf.new }
+{
+    match rt.arg(i, buf) {
+        Ok(n) => n,
+        Err(_) => 0,
+    }
+}
+
+fn as_text(name: &[u8]) -> Result<&str, Error> {
+    match str::from_utf8(name) {
+        Ok(text) => Ok(text),
+        Err(_) => Err(Error::new(ErrorKind::InvalidFilename, "the name is not UTF-8")),
+    }
+}
+
 // Whether the file could be read, and how many of its bytes stand at the start of the buffer: none where it could not.
 #[derive(Drop)]
 pub struct Loaded {
@@ -32,28 +73,25 @@ pub struct Loaded {
 }
 
 // One read behind the first n bytes: how many there are then, and whether it went well.
-fn read_on(fd: i32, buf: &mut [u8], n: usize) -> Loaded
+fn read_on<F: Read>(file: &mut F, buf: &mut [u8], n: usize) -> Loaded
     requires { n ≤ length buf.old }
     ensures { (n ≤ result.n) × (result.n ≤ length buf.new) }
 {
-    let t = &mut buf[n..];
-    let got = libc::read(fd, t);
-    if got < 0 {
-        return Loaded { read: false, n };
-    }
-    let k = io::count(got, t);
-    Loaded {
-        read: true,
-        n: n + k,
+    match file.read(&mut buf[n..]) {
+        Ok(k) => Loaded {
+            read: true,
+            n: n + k,
+        },
+        Err(_) => Loaded { read: false, n },
     }
 }
 
-fn read_all(fd: i32, buf: &mut [u8]) -> Loaded
+fn read_all<F: Read>(file: &mut F, buf: &mut [u8]) -> Loaded
     ensures { Loading result.read result.n (length buf.new) }
 {
     let mut n = 0;
     while n < buf.len() {
-        let l = read_on(fd, buf, n);
+        let l = read_on(file, buf, n);
         let m = l.n;
         if !l.read {
             return Loaded { read: false, n: 0 };
@@ -66,76 +104,150 @@ fn read_all(fd: i32, buf: &mut [u8]) -> Loaded
     Loaded { read: true, n }
 }
 
+fn open<R: Files>(rt: &R, name: &[u8]) -> Result<R::File, Error> {
+    File::open(rt, as_text(name)?)
+}
+
 // Reads the file that argument i names, to its end or until the buffer is full. A buffer one byte longer than what is asked tells a
 // file that is too long.
-pub fn load(i: usize, buf: &mut [u8]) -> Loaded
+pub fn load<R: Env + Files>(rt: &R, i: usize, buf: &mut [u8]) -> Loaded
     ensures prefix_len { IsPrefixLen result.n buf.new }
     ensures loading { Loading result.read result.n (length buf.new) }
 {
-    let mut path = io::buffer();
-    let n = os::arg(i, &mut path);
-    let fd = os::open_read(&path[..n]);
-    if fd < 0 {
-        return Loaded { read: false, n: 0 };
+    let mut path = [0u8; 4096];
+    let n = word(rt, i, &mut path);
+    match open(rt, &path[..n]) {
+        Ok(mut file) => read_all(&mut file, buf),
+        Err(_) => Loaded { read: false, n: 0 },
     }
-    let l = read_all(fd, buf);
-    libc::close(fd);
-    l
 }
 
-// Whether no file can have this name: it is empty or too long, or a directory has it.
-fn is_taken(path: &[u8]) -> bool
+// A name as text for the reader of an error, with a sign in place of what is not UTF-8.
+#[derive(Drop)]
+struct Shown<'a>(&'a [u8]);
+
+impl fmt::Display for Shown<'_> {
+    fn fmt<W: fmt::Write>(&self, f: &mut fmt::Formatter<W>) -> fmt::Result {
+        for chunk in self.0.utf8_chunks() {
+            f.write_str(chunk.valid())?;
+            if !chunk.invalid().is_empty() {
+                f.write_str("\u{fffd}")?;
+            }
+        }
+        Ok(())
+    }
+}
+
+// Writes a line to standard error: the name, a colon and the reason.
+fn fail<R: Eprint>(rt: &R, name: &[u8], reason: Error) {
+    let shown = Shown(name);
+    let _ = eprintln!(rt; "{shown}: {reason}");
+}
+
+// An error where no file can have this name: it is empty or too long, is not text, or a directory has it.
+fn check_free<R: Files>(rt: &R, path: &[u8]) -> Result<(), Error>
+    ensures { OnOk result (length path.now ≤ 4095) }
+{
+    if path.is_empty() || path.len() > LONGEST {
+        let message = "the name is empty or has more than 4,095 bytes";
+        return Err(Error::new(ErrorKind::InvalidFilename, message));
+    }
+    let text = as_text(path)?;
+    match OpenOptions::new().read(true).write(true).open(rt, text) {
+        Err(e) if e.kind() == ErrorKind::IsADirectory => Err(e),
+        _ => Ok(()),
+    }
+}
+
+// Whether no file can have this name. Standard error then has the reason.
+fn is_taken<R: Files + Eprint>(rt: &R, path: &[u8]) -> bool
     ensures { result ≡ false → length path.now ≤ 4095 }
 {
-    let fd = os::open_update(path);
-    if path.len() == 0 {
-        return true;
+    match check_free(rt, path) {
+        Ok(()) => false,
+        Err(e) => {
+            fail(rt, path, e);
+            true
+        }
     }
-    if path.len() > 4095 {
-        return true;
-    }
-    if fd >= 0 {
-        libc::close(fd);
-        return false;
-    }
-    os::errno() == libc::EISDIR
 }
 
-fn put(fd: i32, bytes: &[u8], mode: u32) -> bool {
-    if !io::write_all(fd, bytes) {
-        return false;
-    }
-    if libc::fchmod(fd, mode) < 0 {
-        return false;
-    }
-    libc::fsync(fd) >= 0
+fn put<F: Write + OpenFile>(file: &mut F, bytes: &[u8], mode: u32) -> Result<(), Error> {
+    file.write_all(bytes)?;
+    file.set_permissions(Permissions::from_mode(mode))?;
+    file.sync_all()
 }
 
-// Says why the file could not be made whose name with .XXXXXX behind it is path.
-fn tell(path: &[u8]) {
+// Says why the file could not be made whose name with a dot and six characters behind it is path.
+fn tell<R: Eprint>(rt: &R, path: &[u8], reason: Error) {
     if path.len() < 7 {
         return;
     }
     let n = path.len() - 7;
-    os::fail(&path[..n]);
+    fail(rt, &path[..n], reason);
 }
 
-// Makes a new file of these bytes. path ends in XXXXXX, and is the file's name afterwards. Where the file could not be made whole,
-// standard error has the reason and no file is left.
-fn fresh(path: &mut [u8], bytes: &[u8], mode: u32) -> bool {
-    let fd = os::create_temp(path);
-    if fd < 0 {
-        tell(path);
-        return false;
+// Puts six small letters, drawn at random, at the end of path.
+fn draw<R: RandomSource>(rt: &R, path: &mut [u8]) -> Result<(), Error> {
+    let mut random = [0u8; 6];
+    rt.fill_bytes(&mut random)?;
+    let start = path.len().saturating_sub(6);
+    for (character, byte) in path[start..].iter_mut().zip(&random) {
+        *character = b'a' + *byte % 26;
     }
-    if !put(fd, bytes, mode) {
-        tell(path);
-        libc::close(fd);
-        os::unlink(path);
-        return false;
+    Ok(())
+}
+
+// Opens a new file for writing, for its owner alone. An error where the name is taken.
+fn create<R: Files>(rt: &R, path: &[u8]) -> Result<R::File, Error> {
+    let text = as_text(path)?;
+    OpenOptions::new()
+        .write(true)
+        .create_new(true)
+        .mode(FOR_THE_OWNER)
+        .open(rt, text)
+}
+
+// Opens a new file for writing, for its owner alone. The last six characters of path become ones that no file's name had.
+fn create_temp<R: Files + RandomSource>(rt: &R, path: &mut [u8]) -> Result<R::File, Error> {
+    for _ in 0..TRIES {
+        draw(rt, path)?;
+        match create(rt, path) {
+            Err(e) if e.kind() == ErrorKind::AlreadyExists => {}
+            created => return created,
+        }
     }
-    libc::close(fd);
-    true
+    Err(Error::from(ErrorKind::AlreadyExists))
+}
+
+fn remove<R: Files>(rt: &R, path: &[u8]) {
+    if let Ok(text) = as_text(path) {
+        let _ = fs::remove_file(rt, text);
+    }
+}
+
+// Makes a new file of these bytes. The last six characters of path become ones that no file's name had, and path is the file's name
+// afterwards. Where the file could not be made whole, standard error has the reason and no file is left.
+fn fresh<R: Files + RandomSource + Eprint>(
+    rt: &R,
+    path: &mut [u8],
+    bytes: &[u8],
+    mode: u32,
+) -> bool {
+    match create_temp(rt, path) {
+        Ok(mut file) => {
+            if let Err(e) = put(&mut file, bytes, mode) {
+                tell(rt, path, e);
+                remove(rt, path);
+                return false;
+            }
+            true
+        }
+        Err(e) => {
+            tell(rt, path, e);
+            false
+        }
+    }
 }
 
 // Puts .XXXXXX behind the first n bytes.
@@ -149,81 +261,96 @@ fn marked(name: &mut [u8], n: usize) -> usize
 
 // Makes a new file of these bytes beside the one that argument i names. Its name stands at the start of name afterwards, and its length
 // is answered; 0 where there is no new file.
-fn beside(i: usize, bytes: &[u8], mode: u32, name: &mut [u8]) -> usize
+fn beside<R: Env + Files + RandomSource + Eprint>(
+    rt: &R,
+    i: usize,
+    bytes: &[u8],
+    mode: u32,
+    name: &mut [u8],
+) -> usize
     requires { length name.old ≡ 4103 }
     ensures { IsPrefixLen result name.new }
 {
-    let n = os::arg(i, name);
-    if is_taken(&name[..n]) {
-        os::fail(&name[..n]);
+    let n = word(rt, i, name);
+    if is_taken(rt, &name[..n]) {
         return 0;
     }
     let m = marked(name, n);
-    if !fresh(&mut name[..m], bytes, mode) {
+    if !fresh(rt, &mut name[..m], bytes, mode) {
         return 0;
     }
     m
 }
 
+fn rename<R: Files>(rt: &R, from: &[u8], to: &[u8]) -> Result<(), Error> {
+    fs::rename(rt, as_text(from)?, as_text(to)?)
+}
+
 // Gives the file the name that argument i is, in one step, and removes it where that can't be.
-fn settle(i: usize, file: &[u8]) -> u8
+fn settle<R: Env + Files + Eprint>(rt: &R, i: usize, file: &[u8]) -> u8
     ensures { Storing result }
 {
-    let mut path = io::buffer();
-    let n = os::arg(i, &mut path);
-    if os::rename(file, &path[..n]) < 0 {
-        os::fail(&path[..n]);
-        os::unlink(file);
+    let mut path = [0u8; 4096];
+    let n = word(rt, i, &mut path);
+    if let Err(e) = rename(rt, file, &path[..n]) {
+        fail(rt, &path[..n], e);
+        remove(rt, file);
         return UNWRITTEN;
     }
     0
 }
 
 // Makes the file that argument i names hold these bytes, and be readable by all: number 0, or 9 where that can't be.
-pub fn store(i: usize, bytes: &[u8]) -> u8
+pub fn store<R: Env + Files + RandomSource + Eprint>(rt: &R, i: usize, bytes: &[u8]) -> u8
     ensures { Storing result }
 {
     let mut name = [0u8; 4103];
-    let n = beside(i, bytes, FOR_ALL, &mut name);
+    let n = beside(rt, i, bytes, FOR_ALL, &mut name);
     if n == 0 {
         return UNWRITTEN;
     }
-    settle(i, &name[..n])
+    settle(rt, i, &name[..n])
 }
 
-fn same_name(i: usize, j: usize) -> bool {
-    let mut a = io::buffer();
-    let n = os::arg(i, &mut a);
-    let mut b = io::buffer();
-    let m = os::arg(j, &mut b);
+fn same_name<R: Env>(rt: &R, i: usize, j: usize) -> bool {
+    let mut a = [0u8; 4096];
+    let n = word(rt, i, &mut a);
+    let mut b = [0u8; 4096];
+    let m = word(rt, j, &mut b);
     octets::same(&a[..n], &b[..m])
 }
 
 // Stores a public key, readable by all, and its secret key, readable by its owner alone: number 0, or 9 where that can't be. Both are
 // whole before either takes its name. The secret key comes first: it carries the public one, so a stop between the two loses nothing.
-pub fn store_keys(public: usize, pk: &[u8], secret: usize, sk: &[u8]) -> u8
+pub fn store_keys<R: Env + Files + RandomSource + Eprint>(
+    rt: &R,
+    public: usize,
+    pk: &[u8],
+    secret: usize,
+    sk: &[u8],
+) -> u8
     ensures { Storing result }
 {
-    if same_name(public, secret) {
-        io::write_all(STDERR_FILENO, b"the two keys need two names\n");
+    if same_name(rt, public, secret) {
+        let _ = rt.eprintln("the two keys need two names");
         return UNWRITTEN;
     }
     let mut p = [0u8; 4103];
-    let pn = beside(public, pk, FOR_ALL, &mut p);
+    let pn = beside(rt, public, pk, FOR_ALL, &mut p);
     if pn == 0 {
         return UNWRITTEN;
     }
     let mut s = [0u8; 4103];
-    let sn = beside(secret, sk, FOR_THE_OWNER, &mut s);
+    let sn = beside(rt, secret, sk, FOR_THE_OWNER, &mut s);
     if sn == 0 {
-        os::unlink(&p[..pn]);
+        remove(rt, &p[..pn]);
         return UNWRITTEN;
     }
-    if settle(secret, &s[..sn]) != 0 {
-        os::unlink(&p[..pn]);
+    if settle(rt, secret, &s[..sn]) != 0 {
+        remove(rt, &p[..pn]);
         return UNWRITTEN;
     }
-    settle(public, &p[..pn])
+    settle(rt, public, &p[..pn])
 }
 
 // Puts n as a line at the start of out, and answers how many characters it has.
@@ -231,7 +358,7 @@ fn line(n: u8, out: &mut [u8; 20]) -> usize
     ensures prefix_len { IsPrefixLen result out.new }
     ensures line { IsLine n result out.new }
 {
-    let k = io::decimal(n as u64, out);
+    let k = decimal(n as u64, out);
     // of a slice the proof knows the length
     let text: &mut [u8] = out;
     text[k] = 10;
@@ -239,12 +366,12 @@ fn line(n: u8, out: &mut [u8; 20]) -> usize
 }
 
 // Prints n as a line, and answers how many characters it has.
-pub fn print_number(n: u8) -> usize
+pub fn print_number<R: Print>(rt: &R, n: u8) -> usize
     ensures { LineLong n result }
 {
     let mut text = [0u8; 20];
     let r = line(n, &mut text);
-    io::write_all(STDOUT_FILENO, &text[..r]);
+    let _ = rt.write_all(&text[..r]);
     r
 }
 
