@@ -2,21 +2,19 @@
 // read_cell; where there is none, the number as a line.
 #![tactic(auto)]
 
-use libc::STDOUT_FILENO;
-
-fn main() {
-    if !files::given(os::arg_count(), 1) {
-        files::print_number(1);
+fn main(rt: HostRuntime) {
+    if !files::given(files::word_count(&rt), 1) {
+        files::print_number(&rt, 1);
         return;
     }
     let mut pk = [0u8; 61];
-    let k = files::load(1, &mut pk);
+    let k = files::load(&rt, 1, &mut pk);
     let kn = k.n;
     let mut cell = [0u8; 120];
     let n = cells::write_cell(&pk[..kn], &mut cell);
     if n != 0 {
-        files::print_number(n);
+        files::print_number(&rt, n);
         return;
     }
-    io::write_all(STDOUT_FILENO, &cell);
+    let _ = rt.write_all(&cell);
 }
