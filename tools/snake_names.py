@@ -47,6 +47,7 @@ def main():
         names |= {n for n in w if turned(n) != n and not n.startswith("Rattle")}
     for path in code():
         every |= words(path)
+        names |= {n for n in re.findall(r"\bas ([a-z]\w*)", open(path, encoding="utf-8").read()) if turned(n) != n}
     table = {n: turned(n) for n in names}
     meet = {n: t for n, t in table.items() if t in every}
     for n, t in sorted(meet.items()):

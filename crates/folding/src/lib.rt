@@ -5,7 +5,7 @@
 ghost use Rattle.std.specs.Prelude.{◌≡◌, ◌<◌, length};
 ghost use Rattle.octets.specs.Lists.{tab};
 ghost use Rattle.algebra.specs.Folding.{position as position_of};
-ghost use Rattle.folding.specs.Rows.{Added, x_fold, u_fold, u_acc, sent, corrected as correctedOf, x_at, u_at};
+ghost use Rattle.folding.specs.Rows.{Added, x_fold, u_fold, u_acc, sent, corrected as corrected_of, x_at, u_at};
 
 // p_i: the only digit in which the points of leaf i and leaf i + 1 differ, the point of leaf 256 being 0. It is i's lowest digit 0.
 pub fn position(i: usize) -> usize
@@ -120,7 +120,7 @@ pub fn correction(f: &[u8], x: &[u8]) -> [u8; 12]
 // The correction, of which d was sent, plus x_ACC.
 fn corrected(f: &[u8], d: &[u8]) -> [u8; 28]
     requires { (length f.now ≡ 504) × (length d.now ≡ 12) }
-    ensures { result ≡ correctedOf f.now d.now }
+    ensures { result ≡ corrected_of f.now d.now }
 {
     let mut c = [0u8; 28];
     octets::copy(&f[0..28], &mut c);

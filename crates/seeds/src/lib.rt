@@ -7,7 +7,7 @@ ghost use Rattle.octets.specs.Lists.{zero16};
 ghost use Rattle.octets.specs.Place.{place};
 ghost use Rattle.aes.specs.Cipher.{expand_key};
 ghost use Rattle.aes.specs.Words.{block_of, Table};
-ghost use Rattle.paper.specs.Symmetric.{selector as selectorOf, tweak_salt, psi as psiOf, hash as hashOf, prg_block};
+ghost use Rattle.paper.specs.Symmetric.{selector as selector_of, tweak_salt, psi as psi_of, hash as hash_of, prg_block};
 ghost use Rattle.seeds.specs.Expanded.{derive_with, key_at, plain_keys, tree_key, tree_keys};
 
 use aes::Cols;
@@ -47,7 +47,7 @@ pub const EXPAND: usize = 12;
 // The selector of a purpose.
 pub fn selector(purpose: usize) -> u8
     requires { purpose < 13 }
-    ensures { result ≡ selectorOf purpose }
+    ensures { result ≡ selector_of purpose }
 {
     SELECTORS[purpose]
 }
@@ -91,7 +91,7 @@ pub fn schedule(t: &[u32; 1024], salt: Cols, purpose: usize, e: usize, j: usize)
 
 // The orthomorphism, equation (13).
 fn psi(s: Cols) -> Cols
-    ensures { block_of result ≡ psiOf (block_of s) }
+    ensures { block_of result ≡ psi_of (block_of s) }
 {
     Cols {
         a: s.a ^ s.c,
@@ -212,7 +212,7 @@ pub fn tree_derive(t: &[u32; 1024], keys: &[u8], k: usize, s: Cols) -> Cols
 // Hash of a text, which is not copied behind its selector.
 pub fn hash_after(purpose: usize, text: &[u8]) -> [u8; 32]
     requires { purpose < 13 }
-    ensures { result ≡ hashOf purpose text.now }
+    ensures { result ≡ hash_of purpose text.now }
 {
     let mut h = [0u8; 32];
     shake::xof_after(selector(purpose), text, &mut h);

@@ -6,9 +6,9 @@ ghost use Rattle.std.specs.Prelude.{◌≡◌, ◌∷◌, ◌++◌, ◌+◌, ◌
 ghost use Rattle.octets.specs.Lists.{part, bytes_of};
 ghost use Rattle.octets.specs.Place.{place};
 ghost use Rattle.shake.specs.Shake.{shake128};
-ghost use Rattle.paper.specs.Symmetric.{selector as selectorOf, for_transcript, for_challenge};
-ghost use Rattle.paper.specs.Challenge.{challenge, passes as passesOf, first_below};
-ghost use Rattle.paper.specs.Scheme.{transcript as transcriptOf};
+ghost use Rattle.paper.specs.Symmetric.{selector as selector_of, for_transcript, for_challenge};
+ghost use Rattle.paper.specs.Challenge.{challenge, passes as passes_of, first_below};
+ghost use Rattle.paper.specs.Scheme.{transcript as transcript_of};
 ghost use Rattle.transcript.specs.Search.{search_of};
 
 // What the search yields: the first nonce that passes, or that the allowed tries are used.
@@ -32,7 +32,7 @@ pub fn put_nonce(nonce: u32, out: &mut [u8])
 // p holds the input of the Fiat-Shamir hash afterwards; m is the message's hash.
 fn put_transcript(pk: &[u8], com1: &[u8], com2: &[u8], m: &[u8], p: &mut [u8])
     requires { (length pk.now ≡ 60) × (length com1.now ≡ 32) × (length com2.now ≡ 32) × (length m.now ≡ 32) × (length p.old ≡ 157) }
-    ensures { p.new ≡ selectorOf for_transcript ∷ (pk.now ++ com1.now ++ com2.now ++ m.now) }
+    ensures { p.new ≡ selector_of for_transcript ∷ (pk.now ++ com1.now ++ com2.now ++ m.now) }
 {
     p[0] = seeds::selector(seeds::TRANSCRIPT);
     octets::put(pk, p, 1);
@@ -44,7 +44,7 @@ fn put_transcript(pk: &[u8], com1: &[u8], com2: &[u8], m: &[u8], p: &mut [u8])
 // Hash_4(pk, com1, com2, Hash_2(msg)) (algorithm 3, line 9; algorithm 5, line 4).
 pub fn fiat_shamir(pk: &[u8], com1: &[u8], com2: &[u8], msg: &[u8]) -> [u8; 32]
     requires { (length pk.now ≡ 60) × (length com1.now ≡ 32) × (length com2.now ≡ 32) }
-    ensures { result ≡ transcriptOf pk.now com1.now com2.now msg.now }
+    ensures { result ≡ transcript_of pk.now com1.now com2.now msg.now }
 {
     let m = seeds::hash_after(seeds::MESSAGE, msg);
     let mut p = [0u8; 157];
@@ -55,7 +55,7 @@ pub fn fiat_shamir(pk: &[u8], com1: &[u8], com2: &[u8], msg: &[u8]) -> [u8; 32]
 // The first 33 bytes of p hold the input of XOF_5 up to the nonce afterwards.
 fn put_hash(hash: &[u8], p: &mut [u8])
     requires { (length hash.now ≡ 32) × (length p.old ≡ 37) }
-    ensures { part 0 33 p.new ≡ selectorOf for_challenge ∷ hash.now }
+    ensures { part 0 33 p.new ≡ selector_of for_challenge ∷ hash.now }
 {
     p[0] = seeds::selector(seeds::CHALLENGE);
     octets::put(hash, p, 1);
@@ -77,7 +77,7 @@ pub fn sample(hash: &[u8], nonce: &[u8]) -> [u8; 19]
 // Whether val, the 9 bits behind the indices, is 0 (algorithm 4, line 3).
 pub fn passes(c: &[u8]) -> bool
     requires { length c.now ≡ 19 }
-    ensures { result ≡ passesOf c.now }
+    ensures { result ≡ passes_of c.now }
 {
     c[17] as usize + 256 * (c[18] as usize % 2) == 0
 }
@@ -85,7 +85,7 @@ pub fn passes(c: &[u8]) -> bool
 // The nonce is written into the input p of XOF_5; whether its challenge passes.
 fn test(nonce: u32, p: &mut [u8]) -> bool
     requires { length p.old ≡ 37 }
-    ensures { (p.new ≡ place 33 (bytes_of 4 nonce) p.old) × (result ≡ passesOf (shake128 p.new 19)) }
+    ensures { (p.new ≡ place 33 (bytes_of 4 nonce) p.old) × (result ≡ passes_of (shake128 p.new 19)) }
 {
     put_nonce(nonce, &mut p[33..37]);
     let mut c = [0u8; 19];
@@ -96,7 +96,7 @@ fn test(nonce: u32, p: &mut [u8]) -> bool
 // The first of so many nonces that passes (algorithm 4, lines 1 to 5).
 pub fn first_nonce(hash: &[u8], tries: u32) -> Search
     requires { length hash.now ≡ 32 }
-    ensures { result ≡ search_of (first_below (λ n. passesOf (challenge hash.now (bytes_of 4 n))) tries) }
+    ensures { result ≡ search_of (first_below (λ n. passes_of (challenge hash.now (bytes_of 4 n))) tries) }
 {
     let mut p = [0u8; 37];
     put_hash(hash, &mut p);

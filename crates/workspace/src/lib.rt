@@ -4,7 +4,7 @@
 ghost use Rattle.std.specs.Prelude.{◌≡◌, [], ◌∷◌, ◌+◌, ◌*◌, ◌<◌, length};
 ghost use Rattle.octets.specs.Lists.{part};
 ghost use Rattle.octets.specs.Place.{place};
-ghost use Rattle.paper.specs.Symmetric.{hash as hashOf, selector as selectorOf, for_alphas, for_commitment};
+ghost use Rattle.paper.specs.Symmetric.{hash as hash_of, selector as selector_of, for_alphas, for_commitment};
 ghost use Rattle.workspace.specs.Map.{at_vectors, at_tree, at_com1, at_hashes, at_com2, at_alpha0, at_alpha1};
 
 pub const VECTORS: usize = 18304;
@@ -66,8 +66,8 @@ pub fn keep_hash(work: &mut [u8], e: usize, h: [u8; 32])
 // com_1: Hash_7 of the hashes and the corrections.
 pub fn first_commitment(work: &mut [u8]) -> [u8; 32]
     requires { length work.old ≡ 65536 }
-    ensures hash { result ≡ hashOf for_commitment (part at_hashes 748 work.old) }
-    ensures rest { work.new ≡ place at_com1 (selectorOf for_commitment ∷ []) work.old }
+    ensures hash { result ≡ hash_of for_commitment (part at_hashes 748 work.old) }
+    ensures rest { work.new ≡ place at_com1 (selector_of for_commitment ∷ []) work.old }
 {
     work[COM1] = seeds::selector(seeds::COMMITMENT);
     shake::hash32(&work[COM1..COM1_END])
@@ -76,8 +76,8 @@ pub fn first_commitment(work: &mut [u8]) -> [u8; 32]
 // com_2: Hash_3 of alpha_0 and alpha_1.
 pub fn second_commitment(work: &mut [u8]) -> [u8; 32]
     requires { length work.old ≡ 65536 }
-    ensures hash { result ≡ hashOf for_alphas (part at_alpha0 952 work.old) }
-    ensures rest { work.new ≡ place at_com2 (selectorOf for_alphas ∷ []) work.old }
+    ensures hash { result ≡ hash_of for_alphas (part at_alpha0 952 work.old) }
+    ensures rest { work.new ≡ place at_com2 (selector_of for_alphas ∷ []) work.old }
 {
     work[COM2] = seeds::selector(seeds::ALPHAS);
     shake::hash32(&work[COM2..COM2_END])
