@@ -7,7 +7,7 @@ ghost use Rattle.std.specs.Prelude.{◌≡◌, ◌<◌, ◌≤◌, length};
 ghost use Rattle.shake.specs.Shake.{shake128};
 ghost use Rattle.shake.specs.Held.{fed};
 
-use libc::STDOUT_FILENO;
+use std::io;
 
 fn filled() -> [u8; 512] {
     let mut text = [0u8; 512];
@@ -48,127 +48,119 @@ fn in_parts(text: &[u8], k: usize, out: &mut [u8])
     shake::squeeze(shake::finish(fed_parts(text, k)), out);
 }
 
-fn print_head(call: &[u8], n: usize, k: usize, d: usize) {
-    io::write_all(STDOUT_FILENO, call);
-    io::print_decimal(STDOUT_FILENO, n as u64);
-    io::write_all(STDOUT_FILENO, b" ");
-    io::print_decimal(STDOUT_FILENO, k as u64);
-    io::write_all(STDOUT_FILENO, b" ");
-    io::print_decimal(STDOUT_FILENO, d as u64);
-    io::write_all(STDOUT_FILENO, b" ");
+fn print_head(rt: &impl Print, call: &str, n: usize, k: usize, d: usize) -> io::Result<()> {
+    print!(rt; "{call} {n} {k} {d} ")
 }
 
-fn print_bytes(s: &[u8]) {
-    let mut i = 0;
-    while i < s.len() {
-        io::print_hex(STDOUT_FILENO, s[i] as u64, 2);
-        i += 1;
+fn print_bytes(rt: &impl Print, s: &[u8]) -> io::Result<()> {
+    for b in s {
+        print!(rt; "{:02x}", *b)?;
     }
-    io::write_all(STDOUT_FILENO, b"\n");
+    println!(rt)
 }
 
-fn whole_into(text: &[u8], out: &mut [u8]) {
+fn whole_into(rt: &impl Print, text: &[u8], out: &mut [u8]) -> io::Result<()> {
     shake::xof(text, out);
-    print_head(b"xof ", text.len(), text.len(), out.len());
-    print_bytes(out);
+    print_head(rt, "xof", text.len(), text.len(), out.len())?;
+    print_bytes(rt, out)
 }
 
-fn whole(text: &[u8], d: usize)
+fn whole(rt: &impl Print, text: &[u8], d: usize) -> io::Result<()>
     requires { d ≤ 512 }
 {
     let mut out = [0u8; 512];
-    whole_into(text, &mut out[0..d]);
+    whole_into(rt, text, &mut out[0..d])
 }
 
-fn parts(text: &[u8], k: usize)
+fn parts(rt: &impl Print, text: &[u8], k: usize) -> io::Result<()>
     requires { 0 < k }
 {
     let mut out = [0u8; 400];
     in_parts(text, k, &mut out);
-    print_head(b"parts ", text.len(), k, 400);
-    print_bytes(&out);
+    print_head(rt, "parts", text.len(), k, 400)?;
+    print_bytes(rt, &out)
 }
 
-fn short(text: &[u8]) {
+fn short(rt: &impl Print, text: &[u8]) -> io::Result<()> {
     let h = shake::hash32(text);
-    print_head(b"hash32 ", text.len(), text.len(), 32);
-    print_bytes(&h);
+    print_head(rt, "hash32", text.len(), text.len(), 32)?;
+    print_bytes(rt, &h)
 }
 
-fn after(text: &[u8]) {
+fn after(rt: &impl Print, text: &[u8]) -> io::Result<()> {
     let mut out = [0u8; 169];
     shake::xof_after(6, text, &mut out);
-    print_head(b"after ", text.len(), text.len(), 169);
-    print_bytes(&out);
+    print_head(rt, "after", text.len(), text.len(), 169)?;
+    print_bytes(rt, &out)
 }
 
-fn messages(text: &[u8])
+fn messages(rt: &impl Print, text: &[u8]) -> io::Result<()>
     requires { length text.now ≡ 512 }
 {
-    whole(&text[0..0], 400);
-    whole(&text[0..1], 400);
-    whole(&text[0..167], 400);
-    whole(&text[0..168], 400);
-    whole(&text[0..169], 400);
-    whole(&text[0..336], 400);
-    whole(text, 400);
+    whole(rt, &text[0..0], 400)?;
+    whole(rt, &text[0..1], 400)?;
+    whole(rt, &text[0..167], 400)?;
+    whole(rt, &text[0..168], 400)?;
+    whole(rt, &text[0..169], 400)?;
+    whole(rt, &text[0..336], 400)?;
+    whole(rt, text, 400)
 }
 
-fn outputs(text: &[u8])
+fn outputs(rt: &impl Print, text: &[u8]) -> io::Result<()>
     requires { length text.now ≡ 512 }
 {
-    whole(&text[0..32], 0);
-    whole(&text[0..32], 1);
-    whole(&text[0..32], 167);
-    whole(&text[0..32], 168);
-    whole(&text[0..32], 169);
-    whole(&text[0..32], 336);
-    whole(&text[0..32], 337);
+    whole(rt, &text[0..32], 0)?;
+    whole(rt, &text[0..32], 1)?;
+    whole(rt, &text[0..32], 167)?;
+    whole(rt, &text[0..32], 168)?;
+    whole(rt, &text[0..32], 169)?;
+    whole(rt, &text[0..32], 336)?;
+    whole(rt, &text[0..32], 337)
 }
 
-fn some_parts(text: &[u8])
+fn some_parts(rt: &impl Print, text: &[u8]) -> io::Result<()>
     requires { length text.now ≡ 512 }
 {
-    parts(&text[0..0], 1);
-    parts(&text[0..8], 3);
-    parts(&text[0..167], 13);
-    parts(&text[0..168], 13);
-    parts(&text[0..169], 13);
+    parts(rt, &text[0..0], 1)?;
+    parts(rt, &text[0..8], 3)?;
+    parts(rt, &text[0..167], 13)?;
+    parts(rt, &text[0..168], 13)?;
+    parts(rt, &text[0..169], 13)
 }
 
-fn more_parts(text: &[u8])
+fn more_parts(rt: &impl Print, text: &[u8]) -> io::Result<()>
     requires { length text.now ≡ 512 }
 {
-    parts(&text[0..168], 168);
-    parts(&text[0..336], 1);
-    parts(&text[0..336], 168);
-    parts(&text[0..337], 169);
-    parts(text, 17);
+    parts(rt, &text[0..168], 168)?;
+    parts(rt, &text[0..336], 1)?;
+    parts(rt, &text[0..336], 168)?;
+    parts(rt, &text[0..337], 169)?;
+    parts(rt, text, 17)
 }
 
-fn others(text: &[u8])
+fn others(rt: &impl Print, text: &[u8]) -> io::Result<()>
     requires { length text.now ≡ 512 }
 {
-    short(&text[0..0]);
-    short(&text[0..168]);
-    short(text);
-    after(&text[0..0]);
-    after(&text[0..167]);
-    after(&text[0..168]);
+    short(rt, &text[0..0])?;
+    short(rt, &text[0..168])?;
+    short(rt, text)?;
+    after(rt, &text[0..0])?;
+    after(rt, &text[0..167])?;
+    after(rt, &text[0..168])
 }
 
 // The example of 1,600 bits that NIST publishes with FIPS 202: 200 bytes a3, and 4,096 bits of output.
-fn example() {
+fn example(rt: &impl Print) -> io::Result<()> {
     let text = [0xa3u8; 200];
-    whole(&text, 512);
+    whole(rt, &text, 512)
 }
 
-fn main() {
+fn main(rt: HostRuntime) -> io::Result<()> {
     let text = filled();
-    messages(&text);
-    outputs(&text);
-    some_parts(&text);
-    more_parts(&text);
-    others(&text);
-    example();
+    messages(&rt, &text)?;
+    outputs(&rt, &text)?;
+    some_parts(&rt, &text)?;
+    more_parts(&rt, &text)?;
+    others(&rt, &text)?;
+    example(&rt)
 }
