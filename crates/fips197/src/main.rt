@@ -7,6 +7,7 @@ ghost use Rattle.std.specs.Prelude.{◌≡◌, ◌+◌, ◌≤◌, length};
 ghost use Rattle.aes.specs.Words.{Table};
 
 use aes::Cols;
+use std::io;
 
 fn digit(n: u8) -> u8 {
     let d = n % 16;
@@ -14,7 +15,7 @@ fn digit(n: u8) -> u8 {
 }
 
 // The sixteen bytes of x from p on.
-fn show(x: &[u8], p: usize)
+fn show(rt: &impl Print, x: &[u8], p: usize) -> io::Result<()>
     requires { p + 16 ≤ length x.now }
 {
     let mut line = [10u8; 33];
@@ -25,22 +26,23 @@ fn show(x: &[u8], p: usize)
         line[2 * i + 1] = digit(b);
         i += 1;
     }
-    io::write_all(1, &line);
+    rt.write_all(&line)
 }
 
-fn show_block(k: Cols) {
+fn show_block(rt: &impl Print, k: Cols) -> io::Result<()> {
     let x = aes::to_bytes(k);
-    show(&x, 0);
+    show(rt, &x, 0)
 }
 
-fn show_key(w: &[u8])
+fn show_key(rt: &impl Print, w: &[u8]) -> io::Result<()>
     requires { length w.now ≡ 176 }
 {
     let mut r: usize = 0;
     while r < 11 {
-        show(w, 16 * r);
+        show(rt, w, 16 * r)?;
         r += 1;
     }
+    Ok(())
 }
 
 // Block n of chain i, from a linear congruence; block 0 is the key.
@@ -70,18 +72,19 @@ fn chain(t: &[u32; 1024], i: u32) -> Cols
     s
 }
 
-fn chains(t: &[u32; 1024])
+fn chains(rt: &impl Print, t: &[u32; 1024]) -> io::Result<()>
     requires { Table t.now }
 {
     let mut i: u32 = 0;
     while i < 12 {
-        show_block(chain(t, i));
+        show_block(rt, chain(t, i))?;
         i += 1;
     }
+    Ok(())
 }
 
 // Appendix A.1, and appendix B, which has the same key.
-fn appendix_a_b(t: &[u32; 1024])
+fn appendix_a_b(rt: &impl Print, t: &[u32; 1024]) -> io::Result<()>
     requires { Table t.now }
 {
     let w = aes::expand(
@@ -91,19 +94,16 @@ fn appendix_a_b(t: &[u32; 1024])
             0x4f, 0x3c,
         ]),
     );
-    show_key(&w);
-    show_block(aes::encrypt_cols(
-        t,
-        &w,
-        aes::from_bytes([
-            0x32, 0x43, 0xf6, 0xa8, 0x88, 0x5a, 0x30, 0x8d, 0x31, 0x31, 0x98, 0xa2, 0xe0, 0x37,
-            0x07, 0x34,
-        ]),
-    ));
+    show_key(rt, &w)?;
+    let x = aes::from_bytes([
+        0x32, 0x43, 0xf6, 0xa8, 0x88, 0x5a, 0x30, 0x8d, 0x31, 0x31, 0x98, 0xa2, 0xe0, 0x37, 0x07,
+        0x34,
+    ]);
+    show_block(rt, aes::encrypt_cols(t, &w, x))
 }
 
 // Appendix C.1.
-fn appendix_c(t: &[u32; 1024])
+fn appendix_c(rt: &impl Print, t: &[u32; 1024]) -> io::Result<()>
     requires { Table t.now }
 {
     let w = aes::expand(
@@ -113,20 +113,17 @@ fn appendix_c(t: &[u32; 1024])
             0x0e, 0x0f,
         ]),
     );
-    show_block(aes::encrypt_cols(
-        t,
-        &w,
-        aes::from_bytes([
-            0x00, 0x11, 0x22, 0x33, 0x44, 0x55, 0x66, 0x77, 0x88, 0x99, 0xaa, 0xbb, 0xcc, 0xdd,
-            0xee, 0xff,
-        ]),
-    ));
+    let x = aes::from_bytes([
+        0x00, 0x11, 0x22, 0x33, 0x44, 0x55, 0x66, 0x77, 0x88, 0x99, 0xaa, 0xbb, 0xcc, 0xdd, 0xee,
+        0xff,
+    ]);
+    show_block(rt, aes::encrypt_cols(t, &w, x))
 }
 
-fn main() {
+fn main(rt: HostRuntime) -> io::Result<()> {
     let mut t = [0u32; 1024];
     aes::tables::fill(&mut t);
-    appendix_a_b(&t);
-    appendix_c(&t);
-    chains(&t);
+    appendix_a_b(&rt, &t)?;
+    appendix_c(&rt, &t)?;
+    chains(&rt, &t)
 }
