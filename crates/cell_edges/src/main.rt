@@ -5,6 +5,8 @@
 ghost use Rattle.std.specs.Prelude.{◌≡◌, ◌<◌};
 ghost use Rattle.cell_edges.specs.Edges.{Refused, Read, Unwritten, Written, Same};
 
+use std::io;
+
 // A cell of n characters, all 0 but c at place i, and an output of m bytes: refused with this number, the output untouched.
 fn refused(n: usize, i: usize, c: u8, m: usize, number: u8) -> u64
     requires { Refused n i c m number }
@@ -95,6 +97,7 @@ fn same(n: usize, m: usize, i: usize, c: u8, answer: bool) -> u64
 }
 
 // Lengths of the cell and of the output, and the lowest number where two apply.
+#[tactic(auto, unfolding(crate::proofs::Edges::on_literals))]
 fn lengths() -> u64
     ensures { result ≡ 9 }
 {
@@ -112,6 +115,7 @@ fn lengths() -> u64
 }
 
 // A space at either end, and the characters on the outer side of each class's ends.
+#[tactic(auto, unfolding(crate::proofs::Edges::on_literals))]
 fn no_digits() -> u64
     ensures { result ≡ 10 }
 {
@@ -130,6 +134,7 @@ fn no_digits() -> u64
 }
 
 // All zeros, and the characters at each class's ends, in a high and in a low half.
+#[tactic(auto, unfolding(crate::proofs::Edges::on_literals))]
 fn digits() -> u64
     ensures { result ≡ 9 }
 {
@@ -146,6 +151,7 @@ fn digits() -> u64
     n
 }
 
+#[tactic(auto, unfolding(crate::proofs::Edges::on_literals))]
 fn writes() -> u64
     ensures { result ≡ 9 }
 {
@@ -173,6 +179,7 @@ fn trips() -> u64
     n
 }
 
+#[tactic(auto, unfolding(crate::proofs::Edges::on_literals))]
 fn signers() -> u64
     ensures { result ≡ 8 }
 {
@@ -188,8 +195,7 @@ fn signers() -> u64
     n
 }
 
-fn main() {
+fn main(rt: HostRuntime) -> io::Result<()> {
     let n = lengths() + no_digits() + digits() + writes() + trips() + signers();
-    io::print_decimal(1, n);
-    io::write_all(1, b" cases of key cells\n");
+    println!(rt; "{n} cases of key cells")
 }

@@ -1,0 +1,17 @@
+-- `cell_edges::refused` meets its contract: the number is that of the case, and the output is what it was. Assumes nothing.
+use mathlib.Core.Path.{◌∙◌}
+use borrow.Author.Tests.{eq-eqb}
+use lib.ListN.{replicate}
+use Rattle.octets.proofs.Alike.{alike_of}
+use Rattle.cell_edges.specs.Edges.{but}
+use Rattle.cell_edges.proofs.Edges.{read-number, read_kept}
+use Rattle.cell_edges.proofs.refused.Goals as goal
+
+pub expect-requires : goal.expect-requires
+unfolding but
+expect-requires c = eq-eqb _ _ (read-number c.args.m (replicate 61 0xaa) c.requires.out-fits c.read_cell-r.ensures c.requires.refused)
+
+pub expect-requires-2 : goal.expect-requires-2
+unfolding but
+expect-requires-2 c =
+    c.same.ensures ∙ alike_of _ _ (read_kept c.args.m (replicate 61 0xaa) c.requires.out-fits c.read_cell-r.ensures c.requires.refused c.requires.refusal)
