@@ -1,0 +1,8 @@
+-- `ggm::child` meets its contract. Assumes nothing.
+use Rattle.ggm.specs.Ggm.{derive_by}
+use borrow.Author.Rules.{rules}
+use Rattle.ggm.proofs.child.Goals as goal
+
+pub returns : goal.returns
+unfolding derive_by
+returns c = c.tree_derive.ensures
