@@ -1,0 +1,25 @@
+-- `equations::add_cross` meets its contract: before digit b the parts of the digits below it are added. Assumes nothing.
+use mathlib.Core.Path.{◌≡◌, refl}
+use Prim.Native.Nat.{◌-◌, ◌≤◌}
+use native.Mathlib.Omega.{arith}
+use borrow.Author.Rules.{rules}
+use Rattle.octets.specs.Lists.{vec}
+use Rattle.equations.proofs.Rows.{sofar, sofar-start}
+use Rattle.equations.proofs.Products.{powers, powers-start, powers-turn, across, across-turn, across-end}
+use Rattle.equations.proofs.add_cross.Goals as goal
+
+pub loop-b-init : goal.loop-b-init
+loop-b-init c = (omega arith, powers-start _ (search rules), sofar-start 24 _ _ _ (search rules) (λ l h. refl))
+
+pub loop-b-preserved : goal.loop-b-preserved
+loop-b-preserved c = let l = c.loop-b in
+    let s = c.args in (
+      omega arith,
+      powers-turn _ l.x _ l.b l.invariant.1 c.rooted-y.ensures,
+      across-turn s.m.now s.k s.t s.z l.x l.r _ l.b l.invariant.1 l.invariant.2 c.add_across-s.ensures,
+    )
+
+pub returns : goal.returns
+returns c = let l = c.loop-b in
+    let s = c.args in
+    λ v h. across-end s.m.now s.k s.t s.z l.r l.b (omega arith) (omega arith) v h l.invariant.2

@@ -1,0 +1,20 @@
+-- `equations::add_masked` meets its contract: before turn i the first i bytes are the new ones. Assumes nothing.
+use mathlib.Core.Path.{◌≡◌, refl}
+use Prim.Native.Nat.{◌*◌, ◌-◌, ◌≤◌}
+use native.Mathlib.Omega.{arith}
+use lib.Bits.{bit_and}
+use lib.ListN.{length, length-set}
+use borrow.Author.Rules.{rules}
+use Rattle.octets.specs.Xor.{◌⊕◌}
+use Rattle.octets.specs.Lists.{vec, view}
+use Rattle.equations.specs.Put.{Put}
+use Rattle.equations.proofs.Put.{put-start, put-add, put_all}
+use Rattle.equations.proofs.add_masked.Goals as goal
+
+pub loop-i-preserved : goal.loop-i-preserved
+loop-i-preserved c = let l = c.loop-i in
+    (omega arith, simp length-set l.invariant.1, put-add _ _ _ l.i l.r l.invariant.2 (λ k h e. omega arith) _ (omega arith) refl)
+
+pub returns : goal.returns
+returns c = let l = c.loop-i in
+    put_all _ 192 l.i _ l.r l.invariant.1 (omega arith) l.invariant.2

@@ -1,0 +1,18 @@
+-- `equations::add_masked` meets its contract: before turn i the first i bytes are the new ones. Assumes nothing.
+use mathlib.Core.Path.{◌≡◌, refl}
+use Prim.Native.Nat.{◌*◌, ◌-◌, ◌≤◌}
+use native.Mathlib.Omega.{arith}
+use lib.Bits.{bit_and}
+use lib.ListN.{length, length-set}
+use borrow.Author.Rules.{rules}
+use Rattle.octets.specs.Xor.{◌⊕◌}
+use Rattle.octets.specs.Lists.{vec, view}
+use Rattle.equations.specs.Put.{Put}
+use Rattle.equations.proofs.Put.{put-start, put-add, put_all}
+use Rattle.equations.proofs.add_masked.Given as goal
+
+abbrev pub invariant-loop-i : goal.invariant-loop-i
+invariant-loop-i l = (l.i ≤ 192) × (length l.r ≡ 192) × Put l.initial.r l.i (λ i. i) (λ i. vec l.initial.r i ⊕ bit_and (view l.m (192 * l.k) i) l.c) l.r
+
+abbrev pub decreases-loop-i : goal.decreases-loop-i
+decreases-loop-i l = 192 - l.i

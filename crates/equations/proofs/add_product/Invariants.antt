@@ -1,0 +1,15 @@
+-- `equations::add_product` meets its contract: before digit b the parts of the digits below it are added. Assumes nothing.
+use mathlib.Core.Path.{◌≡◌, refl}
+use Prim.Native.Nat.{◌-◌, ◌≤◌}
+use native.Mathlib.Omega.{arith}
+use borrow.Author.Rules.{rules}
+use Rattle.octets.specs.Lists.{vec}
+use Rattle.equations.proofs.Rows.{sofar, sofar-start}
+use Rattle.equations.proofs.Products.{powers, powers-start, powers-turn, under, under-turn, under-end}
+use Rattle.equations.proofs.add_product.Given as goal
+
+abbrev pub invariant-loop-b : goal.invariant-loop-b
+invariant-loop-b l = (l.b ≤ 8) × (l.x ≡ powers l.initial.x l.b) × (l.r ≡ sofar 24 (vec l.initial.r) (under l.m l.k l.initial.x) l.b)
+
+abbrev pub decreases-loop-b : goal.decreases-loop-b
+decreases-loop-b l = 8 - l.b

@@ -1,0 +1,20 @@
+-- `equations::add_under` meets its contract: before turn l the first l lanes are the new ones. Assumes nothing.
+use mathlib.Core.Path.{◌≡◌, refl}
+use Prim.Native.Nat.{◌-◌, ◌≤◌}
+use native.Mathlib.Omega.{arith}
+use lib.Bits.{bit_and}
+use lib.ListN.{length, length-set}
+use borrow.Author.Rules.{rules}
+use Rattle.octets.specs.Xor.{◌⊕◌}
+use Rattle.octets.specs.Lists.{vec, view}
+use Rattle.equations.specs.Put.{Put}
+use Rattle.equations.proofs.Put.{put-start, put-add, put_all}
+use Rattle.equations.proofs.add_under.Goals as goal
+
+pub loop-l-preserved : goal.loop-l-preserved
+loop-l-preserved c = let l = c.loop-l in
+    (omega arith, simp length-set l.invariant.1, put-add _ _ _ l.l l.s l.invariant.2 (λ k h e. omega arith) _ (omega arith) refl)
+
+pub returns : goal.returns
+returns c = let l = c.loop-l in
+    put_all _ 24 l.l _ l.s l.invariant.1 (omega arith) l.invariant.2

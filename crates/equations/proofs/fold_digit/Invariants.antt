@@ -1,0 +1,19 @@
+-- `equations::fold_digit` meets its contract: before turn l the first l lanes are the new ones. Assumes nothing.
+use mathlib.Core.Path.{◌≡◌, ap, ◌∙◌}
+use Prim.Native.Nat.{◌+◌, ◌*◌, ◌-◌, ◌≤◌}
+use native.Mathlib.Omega.{arith}
+use lib.ListN.{length, length-set}
+use borrow.Author.Rules.{rules}
+use Rattle.octets.specs.Xor.{◌⊕◌}
+use Rattle.octets.specs.Lists.{vec}
+use Rattle.octets.proofs.Xor.{xor-is-⊕}
+use Rattle.field.specs.Gf.{times_root}
+use Rattle.equations.specs.Put.{Put}
+use Rattle.equations.proofs.Put.{put-start, put-turn, put_all}
+use Rattle.equations.proofs.fold_digit.Given as goal
+
+abbrev pub invariant-loop-l : goal.invariant-loop-l
+invariant-loop-l here = (here.l ≤ 24) × (length here.s ≡ 24) × Put here.initial.s here.l (λ i. i) (λ l. times_root 7 0x1b (vec here.r l) ⊕ vec here.a (24 * here.b + l)) here.s
+
+abbrev pub decreases-loop-l : goal.decreases-loop-l
+decreases-loop-l l = 24 - l.l

@@ -1,0 +1,16 @@
+-- `equations::put_lane` meets its contract: before turn k the first k vectors have their lane. Assumes nothing.
+use mathlib.Core.Path.{◌≡◌, refl}
+use Prim.Native.Nat.{◌+◌, ◌*◌, ◌-◌, ◌≤◌}
+use native.Mathlib.Omega.{arith}
+use lib.ListN.{length, length-set}
+use borrow.Author.Rules.{rules}
+use Rattle.octets.specs.Lists.{vec}
+use Rattle.equations.specs.Put.{Put}
+use Rattle.equations.proofs.Put.{put-start, put-turn, put-end}
+use Rattle.equations.proofs.put_lane.Given as goal
+
+abbrev pub invariant-loop-k : goal.invariant-loop-k
+invariant-loop-k l = (l.k ≤ 56) × (length l.vectors ≡ length l.initial.vectors) × Put l.initial.vectors l.k (λ k. 192 * k + l.e) (vec l.x) l.vectors
+
+abbrev pub decreases-loop-k : goal.decreases-loop-k
+decreases-loop-k l = 56 - l.k
