@@ -20,7 +20,7 @@ def refusal(told):
     """The name of what is refused first, and what is printed of it."""
     if m := re.match(r"\S+: error: `([^`]+)`: (.*)", told):
         return m.group(1), m.group(2)
-    if m := re.match(r"note: \S+:\d+:\d+: (.*) \(`([^`]+)(`\))?$", told):
+    if m := re.match(r"note: \S+:\d+:\d+: (.*) \(`([^`]+)(`\)(;.*)?)?$", told):
         return m.group(2), m.group(1)
     return "", told
 

@@ -1,0 +1,13 @@
+-- `lines::fold_leaf` meets its contract. Assumes nothing.
+use native.Mathlib.Omega.{arith}
+use Rattle.algebra.proofs.Points.{position-lt}
+use Rattle.folding.proofs.Folds.{folds-turn}
+use borrow.Author.Rules.{rules}
+use Rattle.lines.proofs.fold_leaf.Goals as goal
+
+pub add_tape-requires : goal.add_tape-requires
+add_tape-requires c = let s = c in
+    (s.requires.keys_len.3, omega (arith, c.position-p.ensures, position-lt 7 s.args.i (omega arith)))
+
+pub returns : goal.returns
+returns c = λ F. folds-turn _ _ _ _ _ _ c.position-p.ensures c.raw-r.ensures F c.add_tape.ensures

@@ -1,0 +1,23 @@
+-- `lines::rebuild` meets its contract. Assumes nothing.
+use mathlib.Core.Path.{◌∙◌}
+use native.Mathlib.Omega.{arith}
+use lib.ListN.{length-take}
+use Rattle.lines.specs.Standing.{rebuilt}
+use Rattle.lines.proofs.Stand.{stands-front, stands-hidden}
+use borrow.Author.Rules.{rules}
+use Rattle.lines.proofs.rebuild.Goals as goal
+
+pub slice_bounds-rebuild_tree-end-2 : goal.slice_bounds-rebuild_tree-end-2
+slice_bounds-rebuild_tree-end-2 c = simp length-take (omega arith)
+
+pub rebuild_tree-requires-clause-keys_len : goal.rebuild_tree-requires-clause-keys_len
+rebuild_tree-requires-clause-keys_len c = let pre = c.requires in
+    (pre.keys_len.0, simp length-take (omega arith), pre.keys_len.2, pre.keys_len.1)
+
+pub returns : goal.returns
+returns c = let s = c in
+    let a = s.args in
+    let e = c.rebuild_tree in
+    stands-hidden a.keys.now (rebuilt a.keys.now a.hidden a.path.now) a.hidden a.out.now _ _ s.requires.keys_len.0 s.requires.keys_len.1 s.requires.keys_len.3
+    (stands-front a.keys.now _ _ _ _ (e.auto.buf ∙ simp length-take (omega arith)) e.ensures c.commit_leaves.ensures)
+    c.put_hidden.ensures
