@@ -1,0 +1,33 @@
+-- `checker::eval_one` meets its contract. Assumes nothing.
+use mathlib.Core.Path.{sym, ap, ◌∙◌}
+use native.Mathlib.Omega.{arith}
+use lib.ListN.{length}
+use Rattle.octets.specs.Lists.{part}
+use Rattle.paper.specs.Alpha.{r3}
+use Rattle.paper.specs.Scheme.{sig_salt, sig_alpha1, sig_paths, sig_outs, sig_sent}
+use Rattle.octets.proofs.Place.{length-place}
+use Rattle.workspace.specs.Map.{at_vectors, at_tree}
+use Rattle.workspace.proofs.Lent.{length-after, length-slice, lent}
+use Rattle.checker.proofs.Lent.{length-path, length-out, length-sent, length-alpha1, path-is, out-is, sent_is, alpha1-is, length-vectors, evaluated-code}
+use borrow.Author.Rules.{rules}
+use Rattle.checker.proofs.eval_one.Goals as goal
+
+pub returns : goal.returns
+unfolding part
+returns c = let s = c in
+    let w = s.args.work.now in
+    let z = s.args.sig.now in
+    let e = s.args.e in
+    let h = s.requires.sig_len in
+    let salt = c.load-s.ensures in
+    let a = c.at_tree-a in
+    let k = c.eval-v in
+    let b = c.at_vectors-m in
+    let r = c.point-r.ensures in
+    let p = c.put_values in
+    let f = lent a.result at_tree 12289 a.ensures k.new.room s.args.work.now (omega (arith, s.requires)) k.auto.room in
+    let g = lent b.result at_vectors 10944 b.ensures p.new.vectors _ (omega (arith, s.requires, length-after f)) p.auto.vectors in
+    λ i q o.
+    let v = k.ensures (sig_paths r3 z) (sig_outs r3 z) (sig_sent r3 z) (path-is z e h.0 h.2) (out-is z e h.0 h.2) (sent_is z e h.0 h.2) in
+    evaluated-code w _ _ _ _ _ _ h.1 f g e _ _ _ _ _ _ h.2 c.keep_values.ensures p.ensures
+    (sig_salt r3 z) (sig_paths r3 z) (sig_outs r3 z) (sig_sent r3 z) (sig_alpha1 r3 z) i _ s.args.hidden salt q (alpha1-is z e h.0 h.2) r v.x-is v.hash-is v.u-is o
