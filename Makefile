@@ -7,7 +7,7 @@ demo:
 	bash demo/run.sh
 
 soak:
-	rt check make_key sign_file check_file
+	bash demo/programs.sh make_key sign_file check_file
 	$(MAKE) -C second second
 	python3 tests/compare.py --first target/bin --second second/second --cases 2000 --damaged 10000 $(if $(SEED),--seed $(SEED))
 

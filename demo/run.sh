@@ -6,8 +6,9 @@ cd "$(dirname "$0")/.." || exit 1
 programs=${1:-target/bin}
 for name in make_key sign_file check_file show_cell read_cell; do
   if [ ! -x "$programs/$name" ]; then
-    echo "The programs are not built yet: rt check proves and builds them. From nothing this takes some minutes."
-    rt check make_key sign_file check_file show_cell read_cell >/dev/null || exit 1
+    echo "The programs are not built yet: they are proved and built first. From nothing this takes some minutes."
+    bash demo/programs.sh || exit 1
+    programs=target/bin
     break
   fi
 done

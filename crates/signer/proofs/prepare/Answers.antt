@@ -1,0 +1,11 @@
+-- `signer::prepare` meets its contract. Assumes nothing.
+use mathlib.Core.Path.{◌∙◌}
+use Rattle.octets.specs.Lists.{part}
+use Rattle.paper.specs.Keys.{solution_of}
+use borrow.Author.Rules.{rules}
+use Rattle.signer.proofs.prepare.Goals as goal
+
+pub returns : goal.returns
+unfolding part solution_of
+returns c = let a = c.args in
+    c.alphas.ensures a.salt.now a.mseed.now c.commit.ensures.adds

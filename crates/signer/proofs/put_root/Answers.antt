@@ -1,0 +1,25 @@
+-- `signer::put_root` meets its contract: block e of PRG is a root seed. Assumes nothing.
+use mathlib.Core.Path.{ap, ◌∙◌}
+use mathlib.Core.List.{List}
+use Prim.Native.Nat.{ℕ, ◌+◌, ◌*◌}
+use native.Mathlib.Omega.{arith}
+use lib.ListN.{length-take}
+use Rattle.octets.specs.Lists.{part}
+use Rattle.octets.specs.Place.{place}
+use Rattle.aes.specs.Words.{block_of}
+use Rattle.aes.proofs.Blocks.{length-block_of}
+use Rattle.signer.proofs.Roots.{rseed-block}
+use borrow.Author.Rules.{rules}
+use Rattle.signer.proofs.put_root.Goals as goal
+
+pub plain_block-r-requires-clause-keys_value : goal.plain_block-r-requires-clause-keys_value
+unfolding part
+plain_block-r-requires-clause-keys_value c = let s = c in
+    (ap (λ (k : ℕ). part 0 k s.args.work.now) c.at_vectors-v.ensures ∙ s.requires.work_len.1, omega arith)
+
+pub returns : goal.returns
+returns c = let s = c in
+    let a = s.args in
+    c.store.ensures
+    ∙ ap (λ (l : List ℕ). place (43360 + 16 * a.e) l a.work.now)
+    (c.plain_block-r.ensures ∙ rseed-block (block_of a.m) (length-block_of a.m) a.e s.requires.work_len.2)

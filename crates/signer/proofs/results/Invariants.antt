@@ -1,0 +1,14 @@
+-- `signer::results` meets its contract: before turn i, i equations are added. Assumes nothing.
+use mathlib.Core.Path.{◌≡◌, ◌∙◌}
+use Prim.Native.Nat.{◌-◌, ◌≤◌}
+use native.Mathlib.Omega.{arith}
+use Rattle.signer.specs.State.{Within}
+use Rattle.signer.proofs.Within.{within-refl, within-trans, within-before}
+use Rattle.signer.proofs.Columns.{Sums, sums-start, sums-turn, sums-end}
+use Rattle.signer.proofs.results.Given as goal
+
+abbrev pub invariant-loop-i : goal.invariant-loop-i
+invariant-loop-i l = (l.i ≤ 28) × Within 42401 952 l.initial.work l.work × Sums l.pk l.initial.work l.i l.work l.d
+
+abbrev pub decreases-loop-i : goal.decreases-loop-i
+decreases-loop-i l = 28 - l.i

@@ -1,0 +1,13 @@
+-- `signer::sign` meets its contract. Assumes nothing.
+use mathlib.Core.Path.{◌∙◌}
+use Rattle.signer.proofs.Signing.{signed-unsolved, signed-answer}
+use borrow.Author.Tests.{not-true, not-false}
+use borrow.Author.Rules.{rules}
+use Rattle.signer.proofs.sign.Goals as goal
+
+pub returns : goal.returns
+returns c = let s = c in
+    let a = s.args in
+    let p = c.prepare in
+    signed-answer a.sk.now a.msg.now a.salt.now a.mseed.now _ a.tries _ a.sig.now p.ensures _ _ c.if-not-prepare.false
+    (c.answer.ensures a.mseed.now _ s.requires.2 p.ensures)

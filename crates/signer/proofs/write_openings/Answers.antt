@@ -1,0 +1,28 @@
+-- `signer::write_openings` meets its contract: before turn e, e openings are written. Assumes nothing.
+use mathlib.Core.Path.{◌≡◌, refl, ap, ◌∙◌}
+use mathlib.Core.List.{List}
+use Prim.Native.Nat.{ℕ, ◌-◌, ◌≤◌}
+use native.Mathlib.Omega.{arith}
+use lib.ListN.{length}
+use Rattle.aes.specs.Words.{block_of}
+use Rattle.paper.specs.Challenge.{hidden_in}
+use Rattle.signer.specs.Written.{Openable, opening_at, openings}
+use Rattle.signer.proofs.Openings.{openings-start, openings-turn}
+use Rattle.signer.proofs.write_openings.Goals as goal
+
+pub loop-e-init : goal.loop-e-init
+loop-e-init c = (omega arith, refl, λ m g. openings-start m _ _ _ _)
+
+pub loop-e-preserved : goal.loop-e-preserved
+unfolding opening_at hidden_in
+loop-e-preserved c = let s = c in
+    let a = s.args in
+    let l = c.loop-e in
+    let k = c.write_opening in (
+      omega arith,
+      k.auto.sig ∙ l.invariant.1,
+      λ m g.
+          k.ensures m g
+          ∙ ap (opening_at m _ a.x.now (hidden_in a.c.now) l.e) (l.invariant.2 m g)
+          ∙ openings-turn m _ a.x.now (hidden_in a.c.now) g.seed s.requires.x_len.0 (λ k. (c.type_inv.c k).fits) l.e a.sig.now (omega arith),
+    )
