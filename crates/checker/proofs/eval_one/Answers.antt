@@ -14,20 +14,20 @@ use Rattle.checker.proofs.eval_one.Goals as goal
 
 pub returns : goal.returns
 unfolding part
-returns c = let s = c in
-    let w = s.args.work.now in
-    let z = s.args.sig.now in
-    let e = s.args.e in
-    let h = s.requires.sig_len in
+returns c =
+    let w = c.args.work.now in
+    let z = c.args.sig.now in
+    let e = c.args.e in
+    let h = c.requires.sig_len in
     let salt = c.load-s.ensures in
     let a = c.at_tree-a in
     let k = c.eval-v in
     let b = c.at_vectors-m in
     let r = c.point-r.ensures in
     let p = c.put_values in
-    let f = lent a.result at_tree 12289 a.ensures k.new.room s.args.work.now (omega (arith, s.requires)) k.auto.room in
-    let g = lent b.result at_vectors 10944 b.ensures p.new.vectors _ (omega (arith, s.requires, length-after f)) p.auto.vectors in
+    let f = lent a.result at_tree 12289 a.ensures k.new.room c.args.work.now (omega (arith, c.requires)) k.auto.room in
+    let g = lent b.result at_vectors 10944 b.ensures p.new.vectors _ (omega (arith, c.requires, length-after f)) p.auto.vectors in
     λ i q o.
     let v = k.ensures (sig_paths r3 z) (sig_outs r3 z) (sig_sent r3 z) (path-is z e h.0 h.2) (out-is z e h.0 h.2) (sent_is z e h.0 h.2) in
     evaluated-code w _ _ _ _ _ _ h.1 f g e _ _ _ _ _ _ h.2 c.keep_values.ensures p.ensures
-    (sig_salt r3 z) (sig_paths r3 z) (sig_outs r3 z) (sig_sent r3 z) (sig_alpha1 r3 z) i _ s.args.hidden salt q (alpha1-is z e h.0 h.2) r v.x-is v.hash-is v.u-is o
+    (sig_salt r3 z) (sig_paths r3 z) (sig_outs r3 z) (sig_sent r3 z) (sig_alpha1 r3 z) i _ c.args.hidden salt q (alpha1-is z e h.0 h.2) r v.x-is v.hash-is v.u-is o

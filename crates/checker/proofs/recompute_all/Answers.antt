@@ -6,10 +6,12 @@ use Rattle.checker.proofs.Recomputing.{RecomputedTo, loop-none, loop-turn, loop-
 use Rattle.checker.proofs.recompute_all.Goals as goal
 
 pub loop-i-preserved : goal.loop-i-preserved
-loop-i-preserved c = let l = c.loop-i in
+loop-i-preserved c =
+    let l = c.loop-i in
     let o = c.recompute_one in
     loop-turn _ _ l.i l.work _ (omega arith) l.invariant o.auto.work o.ensures.keys o.ensures.adds
 
 pub returns : goal.returns
-returns c = let l = c.loop-i in
+returns c =
+    let l = c.loop-i in
     loop-end _ _ l.i l.work (omega arith) l.invariant

@@ -14,30 +14,30 @@ use Rattle.checker.proofs.recompute_one.Goals as goal
 
 pub expand-q-requires-clause-keys_value : goal.expand-q-requires-clause-keys_value
 unfolding part
-expand-q-requires-clause-keys_value c = let s = c in
+expand-q-requires-clause-keys_value c =
     let b = c.at_vectors-v in
-    ap (λ (k : ℕ). part 0 k s.args.work.now) b.ensures ∙ s.requires.work_value
+    ap (λ (k : ℕ). part 0 k c.args.work.now) b.ensures ∙ c.requires.work_value
 
 pub returns-clause-keys : goal.returns-clause-keys
 unfolding part mseed_eq_of
-returns-clause-keys c = let s = c in
-    let w = s.args.work.now in
-    let h = s.requires.pk_len in
+returns-clause-keys c =
+    let w = c.args.work.now in
+    let h = c.requires.pk_len in
     let q = c.expand-q.ensures in
     let z = c.at_points-z.ensures in
     let b = c.at_vectors-v in
     let a = c.at_alpha0-a in
     let y = c.add_column in
-    let f = lent a.result at_alpha0 476 a.ensures y.new.out w (omega (arith, h)) y.auto.out in recomputed-keys w _ _ _ h.1 f s.requires.work_value
+    let f = lent a.result at_alpha0 476 a.ensures y.new.out w (omega (arith, h)) y.auto.out in recomputed-keys w _ _ _ h.1 f c.requires.work_value
 
 pub returns-clause-adds : goal.returns-clause-adds
 unfolding part mseed_eq_of
-returns-clause-adds c = let s = c in
-    let w = s.args.work.now in
-    let h = s.requires.pk_len in
+returns-clause-adds c =
+    let w = c.args.work.now in
+    let h = c.requires.pk_len in
     let q = c.expand-q.ensures in
     let z = c.at_points-z.ensures in
     let b = c.at_vectors-v in
     let a = c.at_alpha0-a in
     let y = c.add_column in
-    let f = lent a.result at_alpha0 476 a.ensures y.new.out w (omega (arith, h)) y.auto.out in recomputed-one w _ _ _ h.1 f s.args.pk.now _ _ _ s.args.i h.2 q (slice_at b.result at_vectors 10944 b.ensures w) z y.ensures
+    let f = lent a.result at_alpha0 476 a.ensures y.new.out w (omega (arith, h)) y.auto.out in recomputed-one w _ _ _ h.1 f c.args.pk.now _ _ _ c.args.i h.2 q (slice_at b.result at_vectors 10944 b.ensures w) z y.ensures

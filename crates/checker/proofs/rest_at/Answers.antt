@@ -12,6 +12,7 @@ use Rattle.checker.proofs.rest_at.Goals as goal
 
 pub returns : goal.returns
 unfolding rest_of
-returns c = let s = c.args in
+returns c =
+    let s = c.args in
     let n : length s.u ≡ 28 = omega arith in
     c.add_scaled.ensures ∙ ap (λ (k : ℕ). tab k (λ j. vec s.u j ⊕ (s.r ⊗ vec s.alpha1.now j))) n

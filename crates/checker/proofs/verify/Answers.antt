@@ -9,28 +9,28 @@ use Rattle.checker.proofs.verify.Goals as goal
 
 pub returns-then-not-passes : goal.returns-then-not-passes
 unfolding part
-returns-then-not-passes c = let s = c in
+returns-then-not-passes c =
     let h = c.fiat_shamir-hash.ensures in
     let d = c.sample-c.ensures in
     let p = c.passes.ensures in
-    verif-first s.args.pk.now s.args.msg.now s.args.sig.now _ _ h d _ p c.if-not-passes.true
+    verif-first c.args.pk.now c.args.msg.now c.args.sig.now _ _ h d _ p c.if-not-passes.true
 
 pub returns-then-not-evaluate : goal.returns-then-not-evaluate
 unfolding part
-returns-then-not-evaluate c = let s = c in
+returns-then-not-evaluate c =
     let h = c.fiat_shamir-hash.ensures in
     let d = c.sample-c.ensures in
     let p = c.passes.ensures in
     let q = c.if-not-passes.false in
-    verif-second s.args.pk.now s.args.msg.now s.args.sig.now _ _ h d _ _ p q c.evaluate.ensures.same c.if-not-evaluate.true
+    verif-second c.args.pk.now c.args.msg.now c.args.sig.now _ _ h d _ _ p q c.evaluate.ensures.same c.if-not-evaluate.true
 
 pub returns : goal.returns
 unfolding part
-returns c = let s = c in
+returns c =
     let h = c.fiat_shamir-hash.ensures in
     let d = c.sample-c.ensures in
     let p = c.passes.ensures in
     let q = c.if-not-passes.false in
     let a = c.evaluate.ensures in
     let r = c.if-not-evaluate.false in
-    verif-third s.args.pk.now s.args.msg.now s.args.sig.now _ _ h d _ _ _ p q a.same r (c.recompute.ensures (hidden_in _) a.holds)
+    verif-third c.args.pk.now c.args.msg.now c.args.sig.now _ _ h d _ _ _ p q a.same r (c.recompute.ensures (hidden_in _) a.holds)

@@ -13,9 +13,11 @@ use Rattle.equations.proofs.add_across.Goals as goal
 
 pub loop-l-preserved : goal.loop-l-preserved
 unfolding ◌⊕◌
-loop-l-preserved c = let l = c.loop-l in
+loop-l-preserved c =
+    let l = c.loop-l in
     (omega arith, simp length-set l.invariant.1, put-add _ _ _ l.l l.s l.invariant.2 (λ k h e. omega arith) _ (omega arith) refl)
 
 pub returns : goal.returns
-returns c = let l = c.loop-l in
+returns c =
+    let l = c.loop-l in
     put_all _ 24 l.l _ l.s l.invariant.1 (omega arith) l.invariant.2

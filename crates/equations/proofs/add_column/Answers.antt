@@ -11,9 +11,11 @@ use Rattle.equations.proofs.Put.{put-start, put-add, put-end}
 use Rattle.equations.proofs.add_column.Goals as goal
 
 pub loop-e-preserved : goal.loop-e-preserved
-loop-e-preserved c = let l = c.loop-e in
+loop-e-preserved c =
+    let l = c.loop-e in
     (omega arith, simp length-set l.invariant.1, put-add _ _ _ l.e l.out l.invariant.2 (λ k h q. omega arith) _ (omega arith) refl)
 
 pub returns : goal.returns
-returns c = let l = c.loop-e in
+returns c =
+    let l = c.loop-e in
     put-end _ l.e _ _ _ l.out (omega arith) (omega arith) l.invariant.2

@@ -12,7 +12,8 @@ pub loop-b-init : goal.loop-b-init
 loop-b-init c = (omega arith, powers-start _ (search rules), sofar-start 24 _ _ _ (search rules) (λ l h. refl))
 
 pub loop-b-preserved : goal.loop-b-preserved
-loop-b-preserved c = let l = c.loop-b in
+loop-b-preserved c =
+    let l = c.loop-b in
     let s = c.args in (
       omega arith,
       powers-turn _ l.x _ l.b l.invariant.1 c.rooted-y.ensures,
@@ -20,6 +21,7 @@ loop-b-preserved c = let l = c.loop-b in
     )
 
 pub returns : goal.returns
-returns c = let l = c.loop-b in
+returns c =
+    let l = c.loop-b in
     let s = c.args in
     λ v h. across-end s.m.now s.k s.t s.z l.r l.b (omega arith) (omega arith) v h l.invariant.2

@@ -10,5 +10,6 @@ use Rattle.field.specs.Vec.{lifted}
 use Rattle.equations.proofs.all_lifted.Goals as goal
 
 pub returns : goal.returns
-returns c = let l = c.loop-k in
+returns c =
+    let l = c.loop-k in
     put_all _ 56 l.k _ l.r l.invariant.1 (omega arith) l.invariant.2

@@ -12,19 +12,22 @@ use Rattle.equations.proofs.Evals.{of_value, of_row, eval-start, eval-turn, eval
 use Rattle.equations.proofs.at_points.Goals as goal
 
 pub loop-j-init : goal.loop-j-init
-loop-j-init c = let s = c.args in (
-  omega arith,
-  sym row_zero,
-  λ v h. eval-start s.q.now v _ _ s.y (c.scaled-u.ensures v h) (c.add_product-z.ensures v h),
-)
+loop-j-init c =
+    let s = c.args in (
+      omega arith,
+      sym row_zero,
+      λ v h. eval-start s.q.now v _ _ s.y (c.scaled-u.ensures v h) (c.add_product-z.ensures v h),
+    )
 
 pub overflow_add-row-in-loop-j : goal.overflow_add-row-in-loop-j
-overflow_add-row-in-loop-j c = let l = c.loop-j in
+overflow_add-row-in-loop-j c =
+    let l = c.loop-j in
     let r = row_room l.j (omega arith) in
     record { fits = omega arith }
 
 pub loop-j-preserved : goal.loop-j-preserved
-loop-j-preserved c = let s = c.args in
+loop-j-preserved c =
+    let s = c.args in
     let l = c.loop-j in (
       omega arith,
       ap (λ (r : ℕ). r + (l.j + 1)) l.invariant.1 ∙ sym (row-turn l.j),
@@ -34,6 +37,7 @@ loop-j-preserved c = let s = c.args in
     )
 
 pub returns : goal.returns
-returns c = let s = c.args in
+returns c =
+    let s = c.args in
     let l = c.loop-j in
     λ v h. eval-end s.q.now v l.z s.y l.j (omega arith) (l.invariant.2 v h)

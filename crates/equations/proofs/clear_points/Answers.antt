@@ -9,5 +9,6 @@ use Rattle.equations.proofs.Put.{put-start, put-turn, put-end}
 use Rattle.equations.proofs.clear_points.Goals as goal
 
 pub loop-l-preserved : goal.loop-l-preserved
-loop-l-preserved c = let l = c.loop-l in
+loop-l-preserved c =
+    let l = c.loop-l in
     (omega arith, simp length-set l.invariant.1, put-turn _ _ _ l.l l.vectors l.invariant.2 (λ k h q. omega arith) _ (omega arith) refl)

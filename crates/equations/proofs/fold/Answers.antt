@@ -12,9 +12,11 @@ pub loop-b-init : goal.loop-b-init
 loop-b-init c = (omega arith, fold_start _ c.args.a (λ l h. get_or-replicate 24 l 0 0 h) refl)
 
 pub loop-b-preserved : goal.loop-b-preserved
-loop-b-preserved c = let l = c.loop-b in
+loop-b-preserved c =
+    let l = c.loop-b in
     (omega arith, fold-turn c.args.a l.r _ l.b _ (omega arith) (omega arith) l.invariant.1 c.fold_digit-s.ensures)
 
 pub returns : goal.returns
-returns c = let l = c.loop-b in
+returns c =
+    let l = c.loop-b in
     fold_end c.args.a l.r l.b (omega arith) l.invariant.1

@@ -13,11 +13,13 @@ use Rattle.equations.proofs.Put.{put-start, put-turn, put_all}
 use Rattle.equations.proofs.fold_digit.Goals as goal
 
 pub loop-l-preserved : goal.loop-l-preserved
-loop-l-preserved c = let l = c.loop-l in
+loop-l-preserved c =
+    let l = c.loop-l in
     let s = c.args in
     let e = xor-is-⊕ _ _ ∙ ap (◌⊕ vec s.a (24 * s.b + l.l)) c.times_root.ensures in
     (omega arith, simp length-set l.invariant.1, put-turn _ _ _ l.l l.s l.invariant.2 (λ k h q. omega arith) _ (omega arith) e)
 
 pub returns : goal.returns
-returns c = let l = c.loop-l in
+returns c =
+    let l = c.loop-l in
     put_all _ 24 l.l _ l.s l.invariant.1 (omega arith) l.invariant.2

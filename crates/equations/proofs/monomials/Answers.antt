@@ -14,18 +14,21 @@ pub loop-j-init : goal.loop-j-init
 loop-j-init c = (omega arith, search rules, sym row_zero, filled-start _ _ _ c.put_unknowns.ensures)
 
 pub overflow_add-row-in-loop-j : goal.overflow_add-row-in-loop-j
-overflow_add-row-in-loop-j c = let l = c.loop-j in
+overflow_add-row-in-loop-j c =
+    let l = c.loop-j in
     let r = row_room l.j (omega arith) in
     record { fits = omega arith }
 
 pub loop-j-preserved : goal.loop-j-preserved
-loop-j-preserved c = let l = c.loop-j in (
-  omega arith,
-  search rules,
-  ap (λ (r : ℕ). r + (l.j + 1)) l.invariant.2 ∙ sym (row-turn l.j),
-  filled-turn _ l.j l.row l.w _ (omega arith) l.invariant.2 l.invariant.3 c.put_row.ensures,
-)
+loop-j-preserved c =
+    let l = c.loop-j in (
+      omega arith,
+      search rules,
+      ap (λ (r : ℕ). r + (l.j + 1)) l.invariant.2 ∙ sym (row-turn l.j),
+      filled-turn _ l.j l.row l.w _ (omega arith) l.invariant.2 l.invariant.3 c.put_row.ensures,
+    )
 
 pub returns : goal.returns
-returns c = let l = c.loop-j in
+returns c =
+    let l = c.loop-j in
     filled-end _ _ l.w l.j (omega arith) c.all_lifted-u.ensures l.invariant.3

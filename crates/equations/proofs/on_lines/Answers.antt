@@ -12,20 +12,23 @@ use Rattle.equations.proofs.Evals.{of_row, of_cross, eval-turn, cross-turn, line
 use Rattle.equations.proofs.on_lines.Goals as goal
 
 pub loop-j-init : goal.loop-j-init
-loop-j-init c = let s = c.args in (
-  omega arith,
-  sym row_zero,
-  λ v h. sofar-zeros 24 (of_row s.q.now v),
-  λ v h. sofar-zeros 24 (of_cross s.q.now v),
-)
+loop-j-init c =
+    let s = c.args in (
+      omega arith,
+      sym row_zero,
+      λ v h. sofar-zeros 24 (of_row s.q.now v),
+      λ v h. sofar-zeros 24 (of_cross s.q.now v),
+    )
 
 pub overflow_add-row-in-loop-j : goal.overflow_add-row-in-loop-j
-overflow_add-row-in-loop-j c = let l = c.loop-j in
+overflow_add-row-in-loop-j c =
+    let l = c.loop-j in
     let r = row_room l.j (omega arith) in
     record { fits = omega arith }
 
 pub loop-j-preserved : goal.loop-j-preserved
-loop-j-preserved c = let s = c.args in
+loop-j-preserved c =
+    let s = c.args in
     let l = c.loop-j in (
       omega arith,
       ap (λ (r : ℕ). r + (l.j + 1)) l.invariant.1 ∙ sym (row-turn l.j),
@@ -38,6 +41,7 @@ loop-j-preserved c = let s = c.args in
     )
 
 pub returns : goal.returns
-returns c = let s = c.args in
+returns c =
+    let s = c.args in
     let l = c.loop-j in
     λ v h. lines_end s.q.now v l.z0 l.z1 l.j (omega arith) (l.invariant.2 v h) (l.invariant.3 v h)

@@ -10,9 +10,11 @@ use Rattle.equations.proofs.Put.{put-start, put-turn, put-end}
 use Rattle.equations.proofs.put_lane.Goals as goal
 
 pub loop-k-preserved : goal.loop-k-preserved
-loop-k-preserved c = let l = c.loop-k in
+loop-k-preserved c =
+    let l = c.loop-k in
     (omega arith, simp length-set l.invariant.1, put-turn _ _ _ l.k l.vectors l.invariant.2 (λ k h q. omega arith) _ (omega arith) refl)
 
 pub returns : goal.returns
-returns c = let l = c.loop-k in
+returns c =
+    let l = c.loop-k in
     put-end _ l.k _ _ _ l.vectors (omega arith) (omega arith) l.invariant.2

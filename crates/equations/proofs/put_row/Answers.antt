@@ -19,11 +19,13 @@ pub bounds-w-row : goal.bounds-w-row
 bounds-w-row c = omega (arith, row_room c.args.j (omega arith))
 
 pub loop-i-preserved : goal.loop-i-preserved
-loop-i-preserved c = let l = c.loop-i in
+loop-i-preserved c =
+    let l = c.loop-i in
     let r = row_room c.args.j (omega arith) in
     let e = c.mul.ensures ∙ ⊗-comm _ _ in
     (omega arith, simp length-set l.invariant.1, put-turn _ _ _ l.i l.w l.invariant.2 (λ k h q. omega arith) _ (omega arith) e)
 
 pub returns : goal.returns
-returns c = let l = c.loop-i in
+returns c =
+    let l = c.loop-i in
     put-end _ l.i _ _ _ l.w (omega arith) (omega arith) l.invariant.2

@@ -10,5 +10,6 @@ use Rattle.equations.proofs.Put.{put-start, put-turn, put-end}
 use Rattle.equations.proofs.put_unknowns.Goals as goal
 
 pub loop-k-preserved : goal.loop-k-preserved
-loop-k-preserved c = let l = c.loop-k in
+loop-k-preserved c =
+    let l = c.loop-k in
     (omega arith, simp length-set l.invariant.1, put-turn _ _ _ l.k l.w l.invariant.2 (λ k h q. omega arith) _ (omega arith) refl)

@@ -11,5 +11,6 @@ use Rattle.equations.proofs.Put.{put-start, put-turn, put_all}
 use Rattle.equations.proofs.rooted.Goals as goal
 
 pub returns : goal.returns
-returns c = let l = c.loop-l in
+returns c =
+    let l = c.loop-l in
     put_all _ 24 l.l _ l.r l.invariant.1 (omega arith) l.invariant.2

@@ -6,5 +6,6 @@ use Rattle.equations.proofs.Evals.{scaled-is}
 use Rattle.equations.proofs.scaled.Goals as goal
 
 pub returns : goal.returns
-returns c = let s = c.args in
+returns c =
+    let s = c.args in
     λ v h. c.fold.ensures ∙ scaled-is s.m.now v h _ s.k s.c (omega arith) c.add_masked.ensures

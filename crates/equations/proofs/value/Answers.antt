@@ -6,5 +6,6 @@ use Rattle.equations.proofs.Flat.{flat-value}
 use Rattle.equations.proofs.value.Goals as goal
 
 pub returns : goal.returns
-returns c = let s = c.args in
+returns c =
+    let s = c.args in
     λ x h. c.dot.ensures ∙ flat-value s.q.now s.w.now x (omega arith) h

@@ -13,9 +13,9 @@ pub loop-i-init : goal.loop-i-init
 loop-i-init c = (omega arith, refl, written_none _ _ _)
 
 pub loop-i-preserved : goal.loop-i-preserved
-loop-i-preserved c = let l = c.loop-i in
-    let s = c in
-    let n = length-xor_b _ s.args.dst.now s.args.src.now refl (sym s.requires) in
+loop-i-preserved c =
+    let l = c.loop-i in
+    let n = length-xor_b _ c.args.dst.now c.args.src.now refl (sym c.requires) in
     (omega arith, simp length-set l.invariant.1, add_turn _ _ _ _ (omega arith) (omega arith) l.invariant.2 (vec-xor_b _ _ _ (omega arith) (omega arith)))
 
 pub returns : goal.returns

@@ -16,7 +16,8 @@ pub loop-i-init : goal.loop-i-init
 loop-i-init c = (omega arith, refl, written_none _ _ _)
 
 pub loop-i-preserved : goal.loop-i-preserved
-loop-i-preserved c = let l = c.loop-i in
+loop-i-preserved c =
+    let l = c.loop-i in
     let s = c.args in
     let n = length-tab (length s.dst.now) (λ i. vec s.dst.now i ⊕ (s.w ⊗ vec s.src.now i)) in
     (omega arith, simp length-set l.invariant.1, add_turn _ _ _ _ (omega arith) (omega arith) l.invariant.2 (vec-tab _ _ _ (omega arith) ∙ ap (vec s.dst.now l.i ⊕◌) (sym c.mul.ensures)))

@@ -13,5 +13,6 @@ pub loop-i-init : goal.loop-i-init
 loop-i-init c = (omega arith, sum-start _)
 
 pub loop-i-preserved : goal.loop-i-preserved
-loop-i-preserved c = let l = c.loop-i in
+loop-i-preserved c =
+    let l = c.loop-i in
     (omega arith, sum-turn l.i l.r c.mul-r.result _ l.invariant.1 c.mul-r.ensures)

@@ -10,6 +10,7 @@ use Rattle.field.proofs.times_root.Goals as goal
 
 pub returns : goal.returns
 unfolding times_root ◌⊕◌
-returns c = let a = c.args.a in
+returns c =
+    let a = c.args.a in
     let top : a / 128 * 27 ≡ a / 128 % 2 * 27 = omega arith in
     ap (bit_xor (a % 128 * 2)) top

@@ -11,5 +11,6 @@ use Rattle.folding.specs.Rows.{u_fold}
 use Rattle.folding.proofs.all_u.Goals as goal
 
 pub returns : goal.returns
-returns c = let l = c.loop-i in
+returns c =
+    let l = c.loop-i in
     is-tab 28 _ l.r l.invariant.1 (λ n h. l.invariant.2 n (omega arith))

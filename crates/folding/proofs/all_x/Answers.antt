@@ -11,5 +11,6 @@ use Rattle.folding.specs.Rows.{x_fold}
 use Rattle.folding.proofs.all_x.Goals as goal
 
 pub returns : goal.returns
-returns c = let l = c.loop-k in
+returns c =
+    let l = c.loop-k in
     is-tab 56 _ l.r l.invariant.1 (λ n h. l.invariant.2 n (omega arith))

@@ -6,5 +6,4 @@ use Rattle.folding.proofs.corrected.Goals as goal
 
 pub returns : goal.returns
 unfolding part
-returns c = let s = c in
-    corrected-write s.args.f.now s.args.d.now _ _ s.requires.0 s.requires.1 c.copy.ensures c.add.ensures
+returns c = corrected-write c.args.f.now c.args.d.now _ _ c.requires.0 c.requires.1 c.copy.ensures c.add.ensures

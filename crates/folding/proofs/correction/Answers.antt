@@ -10,5 +10,6 @@ use Rattle.folding.proofs.correction.Goals as goal
 
 pub returns : goal.returns
 unfolding sent part
-returns c = let s = c.args in
+returns c =
+    let s = c.args in
     c.add.ensures ∙ ap (λ (l : List ℕ). xor_b l (part 16 12 s.f.now)) c.copy.ensures

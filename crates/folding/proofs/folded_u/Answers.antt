@@ -12,12 +12,14 @@ use Rattle.folding.proofs.folded_u.Goals as goal
 
 pub loop-j-init : goal.loop-j-init
 unfolding u_fold
-loop-j-init c = let s = c.args in
+loop-j-init c =
+    let s = c.args in
     let same : 476 + s.i ≡ 56 * (7 + 1) + (28 + s.i) = omega arith in
     (omega arith, omega (arith, c.type_inv.f (476 + s.i)), horner-start (λ j. vec s.f.now (56 * (j + 1) + (28 + s.i))) _ (ap (vec s.f.now) same))
 
 pub loop-j-preserved : goal.loop-j-preserved
-loop-j-preserved c = let s = c.args in
+loop-j-preserved c =
+    let s = c.args in
     let l = c.loop-j in
     let same : 56 * l.j + 28 + s.i ≡ 56 * (l.j - 1 + 1) + (28 + s.i) = omega arith in (
       omega arith,

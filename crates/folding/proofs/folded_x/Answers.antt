@@ -18,7 +18,8 @@ loop-j-init c = (omega arith, rw c.lifted-r.ensures (lifted-byte _ _), horner-st
 
 pub loop-j-preserved : goal.loop-j-preserved
 unfolding part
-loop-j-preserved c = let s = c.args in
+loop-j-preserved c =
+    let s = c.args in
     let l = c.loop-j in
     let same : 56 * l.j ≡ 56 * (l.j - 1 + 1) = omega arith in
     let all : 56 * l.j + 28 - 56 * l.j ≡ 28 = omega arith in (

@@ -14,7 +14,8 @@ use Rattle.folding.proofs.u_at.Goals as goal
 
 pub loop-i-preserved : goal.loop-i-preserved
 unfolding u_at
-loop-i-preserved c = let l = c.loop-i in
+loop-i-preserved c =
+    let l = c.loop-i in
     let s = c.args in (
       omega arith,
       simp length-set l.invariant.1,
@@ -23,5 +24,6 @@ loop-i-preserved c = let l = c.loop-i in
     )
 
 pub returns : goal.returns
-returns c = let l = c.loop-i in
+returns c =
+    let l = c.loop-i in
     is-tab 28 _ l.v l.invariant.1 (λ n h. l.invariant.2 n (omega arith))

@@ -17,7 +17,8 @@ use Rattle.folding.proofs.x_at.Goals as goal
 
 pub loop-k-preserved : goal.loop-k-preserved
 unfolding x_at
-loop-k-preserved c = let l = c.loop-k in
+loop-k-preserved c =
+    let l = c.loop-k in
     let s = c.args in (
       omega arith,
       simp length-set l.invariant.1,
@@ -27,5 +28,6 @@ loop-k-preserved c = let l = c.loop-k in
     )
 
 pub returns : goal.returns
-returns c = let l = c.loop-k in
+returns c =
+    let l = c.loop-k in
     is-tab 56 _ l.v l.invariant.1 (λ n h. l.invariant.3 n (omega arith))

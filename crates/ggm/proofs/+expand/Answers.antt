@@ -15,32 +15,30 @@ use Prim.Native.Nat.{ℕ, ◌<◌}
 use Rattle.ggm.proofs.+expand.Goals as goal
 
 pub expand-requires : goal.expand-requires
-expand-requires t c = let b = c in
-    (omega arith, (b.requires.table, (b.requires.keys_len.0, simp length-take (omega (arith, pow-half b.args.d c.if-d-eq0.false)), omega arith, omega arith)))
+expand-requires t c = (omega arith, (c.requires.table, (c.requires.keys_len.0, simp length-take (omega (arith, pow-half c.args.d c.if-d-eq0.false)), omega arith, omega arith)))
 
 pub expand-requires-else-d-eq0 : goal.expand-requires-else-d-eq0
-expand-requires-else-d-eq0 t c = let b = c in
+expand-requires-else-d-eq0 t c =
     let e = c.expand in
-    let xs = b.args.buf.now in
+    let xs = c.args.buf.now in
     let w = rest-length xs e.new.buf (length xs / 2) (omega arith) e.auto.buf in
-    let p = pow-half b.args.d c.if-d-eq0.false in
-    (omega arith, (b.requires.table, (b.requires.keys_len.0, w ∙ omega arith, omega arith, omega arith)))
+    let p = pow-half c.args.d c.if-d-eq0.false in
+    (omega arith, (c.requires.table, (c.requires.keys_len.0, w ∙ omega arith, omega arith, omega arith)))
 
 pub returns-then-d-eq0 : goal.returns-then-d-eq0
-returns-then-d-eq0 t c = let b = c in
+returns-then-d-eq0 t c =
     let z = c.if-d-eq0.true in
     let p = two-zero z in
-    let e : 16 ≡ length b.args.buf.now = omega arith in
-    c.store.ensures ∙ place-whole (block_of b.args.s) b.args.buf.now (length-block_of b.args.s ∙ e)
-    ∙ sym (leaves-zero (derive_by b.args.keys.now) b.args.d b.args.j (block_of b.args.s) z)
+    let e : 16 ≡ length c.args.buf.now = omega arith in
+    c.store.ensures ∙ place-whole (block_of c.args.s) c.args.buf.now (length-block_of c.args.s ∙ e)
+    ∙ sym (leaves-zero (derive_by c.args.keys.now) c.args.d c.args.j (block_of c.args.s) z)
 
 pub returns-else-d-eq0 : goal.returns-else-d-eq0
-returns-else-d-eq0 t c = let b = c in
-    let n = c in
+returns-else-d-eq0 t c =
     let e = c.expand in
     let e2 = c.expand-else-d-eq0 in
-    let xs = b.args.buf.now in
+    let xs = c.args.buf.now in
     let h = length xs / 2 in
     let fits : h ≤ length xs = omega arith in
     both xs e.new.buf h fits e.auto.buf e2.new.buf
-    ∙ leaves-join (derive_by b.args.keys.now) b.args.d b.args.j (block_of b.args.s) _ _ _ _ n.if-d-eq0.false n.child-l.ensures n.add-r.ensures e.ensures e2.ensures
+    ∙ leaves-join (derive_by c.args.keys.now) c.args.d c.args.j (block_of c.args.s) _ _ _ _ c.if-d-eq0.false c.child-l.ensures c.add-r.ensures e.ensures e2.ensures

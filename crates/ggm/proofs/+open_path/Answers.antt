@@ -15,21 +15,23 @@ use Prim.Native.Nat.{ℕ, ◌<◌}
 use Rattle.ggm.proofs.+open_path.Goals as goal
 
 pub returns-then-d-eq0-clause-siblings : goal.returns-then-d-eq0-clause-siblings
-returns-then-d-eq0-clause-siblings t c = let a = c.args in
+returns-then-d-eq0-clause-siblings t c =
+    let a = c.args in
     let z = c.if-d-eq0.true in length-nil a.path.now (omega arith) ∙ sym (path-zero (derive_by a.keys.now) a.d a.j a.hidden (block_of a.s) z)
 
 pub returns-then-d-eq0-clause-leaf : goal.returns-then-d-eq0-clause-leaf
-returns-then-d-eq0-clause-leaf t c = let a = c.args in
+returns-then-d-eq0-clause-leaf t c =
+    let a = c.args in
     let z = c.if-d-eq0.true in leaf-zero (derive_by a.keys.now) a.d a.j a.hidden (block_of a.s) z (omega arith)
 
 pub open_path-requires-else-hidden-h : goal.open_path-requires-else-hidden-h
-open_path-requires-else-hidden-h t c = let b = c in
-    let p = pow-half b.args.d c.if-d-eq0.false in
-    (omega arith, (b.requires.table, (b.requires.keys_len.0, simp length-take (omega arith), omega arith, omega arith, omega arith)))
+open_path-requires-else-hidden-h t c =
+    let p = pow-half c.args.d c.if-d-eq0.false in
+    (omega arith, (c.requires.table, (c.requires.keys_len.0, simp length-take (omega arith), omega arith, omega arith, omega arith)))
 
 pub returns-then-hidden-h-clause-siblings : goal.returns-then-hidden-h-clause-siblings
-returns-then-hidden-h-clause-siblings t c = let b = c in
-    let a = b.args in
+returns-then-hidden-h-clause-siblings t c =
+    let a = c.args in
     let f = derive_by a.keys.now in
     let e = c.open_path in
     let z = c.if-d-eq0.false in
@@ -42,8 +44,8 @@ returns-then-hidden-h-clause-siblings t c = let b = c in
     let p = drop-place (16 * (a.d - 1)) (block_of k) a.path.now c.store.ensures m in path-join-left f a.d a.j a.hidden _ (block_of a.s) _ _ _ _ z n h l r e.ensures.siblings p
 
 pub returns-then-hidden-h-clause-leaf : goal.returns-then-hidden-h-clause-leaf
-returns-then-hidden-h-clause-leaf t c = let b = c in
-    let a = b.args in
+returns-then-hidden-h-clause-leaf t c =
+    let a = c.args in
     let f = derive_by a.keys.now in
     let e = c.open_path in
     let z = c.if-d-eq0.false in
@@ -56,8 +58,8 @@ returns-then-hidden-h-clause-leaf t c = let b = c in
     let p = drop-place (16 * (a.d - 1)) (block_of k) a.path.now c.store.ensures m in leaf-join-left f a.d a.j a.hidden _ (block_of a.s) _ _ z n h l e.ensures.leaf
 
 pub returns-else-hidden-h-clause-siblings : goal.returns-else-hidden-h-clause-siblings
-returns-else-hidden-h-clause-siblings t c = let b = c in
-    let a = b.args in
+returns-else-hidden-h-clause-siblings t c =
+    let a = c.args in
     let f = derive_by a.keys.now in
     let e = c.open_path-else-hidden-h in
     let z = c.if-d-eq0.false in
@@ -70,8 +72,8 @@ returns-else-hidden-h-clause-siblings t c = let b = c in
     let p = drop-place (16 * (a.d - 1)) (block_of k) a.path.now c.store-else-hidden-h.ensures m in path-join-right f a.d a.j a.hidden _ (block_of a.s) _ _ _ _ z n h l r e.ensures.siblings p
 
 pub returns-else-hidden-h-clause-leaf : goal.returns-else-hidden-h-clause-leaf
-returns-else-hidden-h-clause-leaf t c = let b = c in
-    let a = b.args in
+returns-else-hidden-h-clause-leaf t c =
+    let a = c.args in
     let f = derive_by a.keys.now in
     let e = c.open_path-else-hidden-h in
     let z = c.if-d-eq0.false in

@@ -12,58 +12,57 @@ use Prim.Native.Nat.{ℕ, ◌<◌}
 use Rattle.ggm.proofs.+rebuild.Goals as goal
 
 pub rebuild-requires : goal.rebuild-requires
-rebuild-requires t c = let b = c in
-    let p = pow-half b.args.d c.if-d-eq0.false in
-    (omega arith, (b.requires.table, (b.requires.keys_len.0, simp length-take (omega arith), omega arith, omega arith, omega arith)))
+rebuild-requires t c =
+    let p = pow-half c.args.d c.if-d-eq0.false in
+    (omega arith, (c.requires.table, (c.requires.keys_len.0, simp length-take (omega arith), omega arith, omega arith, omega arith)))
 
 pub expand-requires-clause-keys_len : goal.expand-requires-clause-keys_len
-expand-requires-clause-keys_len t c = let b = c in
+expand-requires-clause-keys_len t c =
     let e = c.rebuild in
-    let xs = b.args.buf.now in
+    let xs = c.args.buf.now in
     let w = rest-length xs e.new.buf (length xs / 2) (omega arith) e.auto.buf in
-    let p = pow-half b.args.d c.if-d-eq0.false in
-    (b.requires.keys_len.0, w ∙ omega arith, omega arith, omega arith)
+    let p = pow-half c.args.d c.if-d-eq0.false in
+    (c.requires.keys_len.0, w ∙ omega arith, omega arith, omega arith)
 
 pub rebuild-requires-else-hidden-h : goal.rebuild-requires-else-hidden-h
-rebuild-requires-else-hidden-h t c = let b = c in
+rebuild-requires-else-hidden-h t c =
     let e = c.expand-else-hidden-h in
-    let xs = b.args.buf.now in
+    let xs = c.args.buf.now in
     let w = rest-length xs e.new.buf (length xs / 2) (omega arith) e.auto.buf in
-    let p = pow-half b.args.d c.if-d-eq0.false in
-    (omega arith, (b.requires.table, (b.requires.keys_len.0, w ∙ omega arith, omega arith, omega arith, omega arith)))
+    let p = pow-half c.args.d c.if-d-eq0.false in
+    (omega arith, (c.requires.table, (c.requires.keys_len.0, w ∙ omega arith, omega arith, omega arith, omega arith)))
 
 pub returns-then-d-eq0 : goal.returns-then-d-eq0
-returns-then-d-eq0 t c = let a = c.args in
+returns-then-d-eq0 t c =
+    let a = c.args in
     let z = c.if-d-eq0.true in
     let p = two-zero z in
     let e : length a.buf.now ≡ 16 = omega arith in
     c.fill.ensures ∙ ap (λ n. replicate n 0) e ∙ sym (rebuild-zero (derive_by a.keys.now) a.d a.j a.hidden a.path.now z)
 
 pub returns-then-hidden-h : goal.returns-then-hidden-h
-returns-then-hidden-h t c = let b = c in
-    let a = b.args in
-    let n = c in
+returns-then-hidden-h t c =
+    let a = c.args in
     let e = c.rebuild in
     let e2 = c.expand in
     let xs = a.buf.now in
     let h = length xs / 2 in
     let fits : h ≤ length xs = omega arith in
     both xs e.new.buf h fits e.auto.buf e2.new.buf
-    ∙ rebuild-join-left (derive_by a.keys.now) a.d a.j a.hidden _ a.path.now _ _ _ n.if-d-eq0.false n.half-h.ensures n.if-hidden-h.true n.load-s.ensures e.ensures e2.ensures
+    ∙ rebuild-join-left (derive_by a.keys.now) a.d a.j a.hidden _ a.path.now _ _ _ c.if-d-eq0.false c.half-h.ensures c.if-hidden-h.true c.load-s.ensures e.ensures e2.ensures
 
 pub returns-else-hidden-h : goal.returns-else-hidden-h
-returns-else-hidden-h t c = let b = c in
-    let a = b.args in
-    let n = c in
+returns-else-hidden-h t c =
+    let a = c.args in
     let e = c.expand-else-hidden-h in
     let e2 = c.rebuild-else-hidden-h in
     let xs = a.buf.now in
     let h = length xs / 2 in
     let fits : h ≤ length xs = omega arith in
     both xs e.new.buf h fits e.auto.buf e2.new.buf
-    ∙ rebuild-join-right (derive_by a.keys.now) a.d a.j a.hidden _ a.path.now _ _ _ n.if-d-eq0.false n.half-h.ensures n.if-hidden-h.false n.load-s.ensures e.ensures e2.ensures
+    ∙ rebuild-join-right (derive_by a.keys.now) a.d a.j a.hidden _ a.path.now _ _ _ c.if-d-eq0.false c.half-h.ensures c.if-hidden-h.false c.load-s.ensures e.ensures e2.ensures
 
 pub expand-requires-else-hidden-h-clause-keys_len : goal.expand-requires-else-hidden-h-clause-keys_len
-expand-requires-else-hidden-h-clause-keys_len t c = let b = c in
-    let p = pow-half b.args.d c.if-d-eq0.false in
-    (b.requires.keys_len.0, simp length-take (omega arith), omega arith, omega arith)
+expand-requires-else-hidden-h-clause-keys_len t c =
+    let p = pow-half c.args.d c.if-d-eq0.false in
+    (c.requires.keys_len.0, simp length-take (omega arith), omega arith, omega arith)

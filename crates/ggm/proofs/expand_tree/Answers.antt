@@ -14,11 +14,13 @@ pub slice_bounds-expand-end-2 : goal.slice_bounds-expand-end-2
 slice_bounds-expand-end-2 c = simp length-take (omega arith)
 
 pub expand-requires-clause-keys_len : goal.expand-requires-clause-keys_len
-expand-requires-clause-keys_len c = let pre = c.requires in
+expand-requires-clause-keys_len c =
+    let pre = c.requires in
     (pre.keys_len.0, simp length-take (omega arith), omega arith, omega arith)
 
 pub returns : goal.returns
-returns c = let a = c.args in
+returns c =
+    let a = c.args in
     let e = c.expand in
     let e2 = c.expand-2 in
     let xs = a.buf.now in

@@ -13,54 +13,55 @@ use borrow.Author.Rules.{rules}
 use Rattle.ggm.proofs.open_tree.Goals as goal
 
 pub open_path-requires-clause-keys_len : goal.open_path-requires-clause-keys_len
-open_path-requires-clause-keys_len c = let pre = c.requires in
+open_path-requires-clause-keys_len c =
+    let pre = c.requires in
     (pre.keys_len.0, simp length-take (omega arith), omega arith, omega arith, omega arith)
 
 pub returns-then-hidden-lt128-clause-siblings : goal.returns-then-hidden-lt128-clause-siblings
-returns-then-hidden-lt128-clause-siblings c = let b = c in
-    let a = b.args in
+returns-then-hidden-lt128-clause-siblings c =
+    let a = c.args in
     let f = derive_by a.keys.now in
     let e = c.open_path in
     let h = c.if-hidden-lt128.true in
     let o = c.add-o.ensures in
     let k = c.add-o.result in
-    let m : length a.path.now ≡ 112 + length (block_of k) = omega (arith, length-block_of k, b.requires.keys_len.1) in
+    let m : length a.path.now ≡ 112 + length (block_of k) = omega (arith, length-block_of k, c.requires.keys_len.1) in
     let p = drop-place 112 (block_of k) a.path.now c.store.ensures m in
     tree-path-left f 7 a.hidden 128 (block_of a.r) (block_of a.delta) _ _ _ refl h o e.ensures.siblings p
 
 pub returns-then-hidden-lt128-clause-leaf : goal.returns-then-hidden-lt128-clause-leaf
-returns-then-hidden-lt128-clause-leaf c = let b = c in
-    let a = b.args in
+returns-then-hidden-lt128-clause-leaf c =
+    let a = c.args in
     let f = derive_by a.keys.now in
     let e = c.open_path in
     let h = c.if-hidden-lt128.true in
     let o = c.add-o.ensures in
     let k = c.add-o.result in
-    let m : length a.path.now ≡ 112 + length (block_of k) = omega (arith, length-block_of k, b.requires.keys_len.1) in
+    let m : length a.path.now ≡ 112 + length (block_of k) = omega (arith, length-block_of k, c.requires.keys_len.1) in
     let p = drop-place 112 (block_of k) a.path.now c.store.ensures m in
     tree-leaf-left f 7 a.hidden 128 (block_of a.r) (block_of a.delta) _ refl h e.ensures.leaf
 
 pub returns-else-hidden-lt128-clause-siblings : goal.returns-else-hidden-lt128-clause-siblings
-returns-else-hidden-lt128-clause-siblings c = let b = c in
-    let a = b.args in
+returns-else-hidden-lt128-clause-siblings c =
+    let a = c.args in
     let f = derive_by a.keys.now in
     let e = c.open_path-else-hidden-lt128 in
     let h = c.if-hidden-lt128.false in
     let o = c.add-o.ensures in
     let k = a.r in
-    let m : length a.path.now ≡ 112 + length (block_of k) = omega (arith, length-block_of k, b.requires.keys_len.1) in
+    let m : length a.path.now ≡ 112 + length (block_of k) = omega (arith, length-block_of k, c.requires.keys_len.1) in
     let p = drop-place 112 (block_of k) a.path.now c.store-else-hidden-lt128.ensures m in
     tree-path-right f 7 a.hidden 128 (block_of a.r) (block_of a.delta) _ _ _ refl h o e.ensures.siblings p
 
 pub returns-else-hidden-lt128-clause-leaf : goal.returns-else-hidden-lt128-clause-leaf
-returns-else-hidden-lt128-clause-leaf c = let b = c in
-    let a = b.args in
+returns-else-hidden-lt128-clause-leaf c =
+    let a = c.args in
     let f = derive_by a.keys.now in
     let e = c.open_path-else-hidden-lt128 in
     let h = c.if-hidden-lt128.false in
     let o = c.add-o.ensures in
     let k = a.r in
-    let m : length a.path.now ≡ 112 + length (block_of k) = omega (arith, length-block_of k, b.requires.keys_len.1) in
+    let m : length a.path.now ≡ 112 + length (block_of k) = omega (arith, length-block_of k, c.requires.keys_len.1) in
     let p = drop-place 112 (block_of k) a.path.now c.store-else-hidden-lt128.ensures m in
     tree-leaf-right f 7 a.hidden 128 (block_of a.r) (block_of a.delta) _ _ refl h o e.ensures.leaf
 
@@ -71,5 +72,6 @@ pub slice_bounds-open_path-end-else-hidden-lt128-2 : goal.slice_bounds-open_path
 slice_bounds-open_path-end-else-hidden-lt128-2 c = simp length-take (omega arith)
 
 pub open_path-requires-else-hidden-lt128-clause-keys_len : goal.open_path-requires-else-hidden-lt128-clause-keys_len
-open_path-requires-else-hidden-lt128-clause-keys_len c = let pre = c.requires in
+open_path-requires-else-hidden-lt128-clause-keys_len c =
+    let pre = c.requires in
     (pre.keys_len.0, simp length-take (omega arith), omega arith, omega arith, omega arith)

@@ -11,17 +11,20 @@ use borrow.Author.Rules.{rules}
 use Rattle.keygen.proofs.make_keys.Goals as goal
 
 pub put_public-requires-clause-keys_value : goal.put_public-requires-clause-keys_value
-put_public-requires-clause-keys_value c = let e = c.plain_keys.ensures in
+put_public-requires-clause-keys_value c =
+    let e = c.plain_keys.ensures in
     (take_at _ _ 18304 (ap length e ∙ length-plain_keys) ∙ e, search rules, search rules)
 
 pub returns-clause-public : goal.returns-clause-public
 unfolding key_gen
-returns-clause-public c = let d = c.draw-k.ensures in
+returns-clause-public c =
+    let d = c.draw-k.ensures in
     let p = c.put_public.ensures ∙ ap (λ (k : List ℕ). part 28 32 k ++ values_at (part 28 32 k) (part 0 28 k)) d in
     p
 
 pub returns-clause-secret : goal.returns-clause-secret
 unfolding key_gen
-returns-clause-secret c = let d = c.draw-k.ensures in
+returns-clause-secret c =
+    let d = c.draw-k.ensures in
     let p = c.put_public.ensures ∙ ap (λ (k : List ℕ). part 28 32 k ++ values_at (part 28 32 k) (part 0 28 k)) d in
     c.put_secret.ensures ∙ ap₂ (λ (q k : List ℕ). q ++ part 0 28 k) p d

@@ -10,7 +10,8 @@ use Rattle.keygen.proofs.put_public.Goals as goal
 
 pub returns : goal.returns
 unfolding part
-returns c = let a = c.args in
+returns c =
+    let a = c.args in
     let y = c.copy.ensures in
     let v = c.put_values in
     both-parts 32 28 a.pk.now c.copy.new.dst v.new.y (ap length y ∙ simp (length-take, length-drop) (omega arith)) (omega arith)

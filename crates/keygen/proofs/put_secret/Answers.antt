@@ -10,6 +10,7 @@ use Rattle.keygen.proofs.put_secret.Goals as goal
 
 pub returns : goal.returns
 unfolding part
-returns c = let a = c.args in
+returns c =
+    let a = c.args in
     let y = c.copy.ensures in
     both-parts 60 28 a.sk.now c.copy.new.dst c.copy-2.new.dst (ap length y ∙ omega arith) (omega arith) ∙ ap₂ ◌++◌ y c.copy-2.ensures

@@ -18,7 +18,8 @@ loop-i-init c = (omega arith, refl, c.monomials-w.ensures, search rules, written
 
 pub loop-i-preserved : goal.loop-i-preserved
 unfolding part
-loop-i-preserved c = let l = c.loop-i in
+loop-i-preserved c =
+    let l = c.loop-i in
     let a = c.args in
     let m = length-values_at (part 28 32 a.k.now) (part 0 28 a.k.now) in (
       omega arith,
@@ -30,6 +31,7 @@ loop-i-preserved c = let l = c.loop-i in
     )
 
 pub returns : goal.returns
-returns c = let a = c.args in
+returns c =
+    let a = c.args in
     let m = length-values_at (part 28 32 a.k.now) (part 0 28 a.k.now) in
     fill_end _ _ _ (omega arith) (omega arith) c.loop-i.invariant.4

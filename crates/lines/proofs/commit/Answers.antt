@@ -13,16 +13,15 @@ pub slice_bounds-fold_leaves-end-3 : goal.slice_bounds-fold_leaves-end-3
 slice_bounds-fold_leaves-end-3 c = simp length-take (omega (arith, c.grow.ensures.long))
 
 pub fold_leaves-f-requires-clause-keys_len : goal.fold_leaves-f-requires-clause-keys_len
-fold_leaves-f-requires-clause-keys_len c = let s = c in
-    (search rules, simp length-take (omega (arith, c.grow.ensures.long)))
+fold_leaves-f-requires-clause-keys_len c = (search rules, simp length-take (omega (arith, c.grow.ensures.long)))
 
 pub returns : goal.returns
 unfolding part
-returns c = let s = c in
-    let a = s.args in
+returns c =
+    let a = c.args in
     let k = c.tree_keys-keys in
     let f = c.fold_leaves-f in
     let lf : length f.result ≡ 504 = search rules in
     λ mseed from.
-    committed mseed (block_of a.salt) a.x.now a.e k.result k.ensures (block_of a.r) (length-block_of a.r) s.requires.e_bound.1 from _ f.result _
+    committed mseed (block_of a.salt) a.x.now a.e k.result k.ensures (block_of a.r) (length-block_of a.r) c.requires.e_bound.1 from _ f.result _
     c.grow.ensures c.leaves_hash-h.ensures lf f.ensures _ c.of_folded.ensures

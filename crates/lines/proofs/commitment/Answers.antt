@@ -5,5 +5,4 @@ use borrow.Author.Rules.{rules}
 use Rattle.lines.proofs.commitment.Goals as goal
 
 pub returns : goal.returns
-returns c = let d = c in
-    com-made _ d.args.s d.tree_derive-a.result d.tree_derive-b.result _ _ _ refl d.tree_derive-a.ensures d.tree_derive-b.ensures c.store.ensures c.store-2.ensures
+returns c = com-made _ c.args.s c.tree_derive-a.result c.tree_derive-b.result _ _ _ refl c.tree_derive-a.ensures c.tree_derive-b.ensures c.store.ensures c.store-2.ensures

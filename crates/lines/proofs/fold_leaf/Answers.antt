@@ -6,8 +6,7 @@ use borrow.Author.Rules.{rules}
 use Rattle.lines.proofs.fold_leaf.Goals as goal
 
 pub add_tape-requires : goal.add_tape-requires
-add_tape-requires c = let s = c in
-    (s.requires.keys_len.3, omega (arith, c.position-p.ensures, position-lt 7 s.args.i (omega arith)))
+add_tape-requires c = (c.requires.keys_len.3, omega (arith, c.position-p.ensures, position-lt 7 c.args.i (omega arith)))
 
 pub returns : goal.returns
 returns c = λ F. folds-turn _ _ _ _ _ _ c.position-p.ensures c.raw-r.ensures F c.add_tape.ensures

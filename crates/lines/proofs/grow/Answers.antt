@@ -11,12 +11,13 @@ pub slice_bounds-expand_tree-end-2 : goal.slice_bounds-expand_tree-end-2
 slice_bounds-expand_tree-end-2 c = simp length-take (omega arith)
 
 pub expand_tree-requires-clause-keys_len : goal.expand_tree-requires-clause-keys_len
-expand_tree-requires-clause-keys_len c = let pre = c.requires in
+expand_tree-requires-clause-keys_len c =
+    let pre = c.requires in
     (pre.keys_len.0, simp length-take (omega arith))
 
 pub returns : goal.returns
-returns c = let s = c in
-    let a = s.args in
+returns c =
+    let a = c.args in
     let e = c.expand_tree in
     stands-grown a.keys.now (block_of a.r) a.x.now _ _ _ _ (e.auto.buf ∙ simp length-take (omega arith))
     c.load-d.ensures e.ensures c.commit_leaves.ensures

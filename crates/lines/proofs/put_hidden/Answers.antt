@@ -7,7 +7,7 @@ use borrow.Author.Rules.{rules}
 use Rattle.lines.proofs.put_hidden.Goals as goal
 
 pub returns : goal.returns
-returns c = let s = c in
-    let a = s.args in
+returns c =
+    let a = c.args in
     let e : 4097 + 32 * a.hidden + 32 - (4097 + 32 * a.hidden) ≡ 32 = omega arith in
-    place-write (4097 + 32 * a.hidden) _ 32 _ a.out.now a.room.now a.room.now c.copy.ensures refl s.requires.2 e (omega arith)
+    place-write (4097 + 32 * a.hidden) _ 32 _ a.out.now a.room.now a.room.now c.copy.ensures refl c.requires.2 e (omega arith)

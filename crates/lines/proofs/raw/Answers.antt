@@ -14,5 +14,6 @@ returns-then-i-hidden c = λ b h. get_or-replicate 56 b 0 0 h ∙ sym (hide-same
 
 pub returns : goal.returns
 unfolding leaf_at
-returns c = let a = c.args in
+returns c =
+    let a = c.args in
     λ b h. ap (λ (l : List ℕ). vec l b) (c.tape.ensures ∙ ap (tape_by a.keys.now) c.load-s.ensures) ∙ sym (hide-other _ _ _ b c.if-i-hidden.false)

@@ -6,9 +6,9 @@ use borrow.Author.Rules.{rules}
 use Rattle.lines.proofs.reveal.Goals as goal
 
 pub returns : goal.returns
-returns c = let s = c in
+returns c =
     let k = c.tree_keys-keys in
     let o = c.open_tree-s in
-    λ mseed from. revealed mseed (block_of s.args.salt) s.args.x.now s.args.e k.result k.ensures
-    (block_of s.args.r) (length-block_of s.args.r) s.requires.e_bound.1 from s.args.hidden _ _ (block_of o.result) _
+    λ mseed from. revealed mseed (block_of c.args.salt) c.args.x.now c.args.e k.result k.ensures
+    (block_of c.args.r) (length-block_of c.args.r) c.requires.e_bound.1 from c.args.hidden _ _ (block_of o.result) _
     c.load-d.ensures o.ensures.siblings o.ensures.leaf c.commitment.ensures

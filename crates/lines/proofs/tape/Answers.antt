@@ -5,9 +5,7 @@ use borrow.Author.Rules.{rules}
 use Rattle.lines.proofs.tape.Goals as goal
 
 pub returns : goal.returns
-returns c = let s₂ = c in
-    let d = s₂ in
-    tape-made _ d.args.s d.tree_derive-a.result d.tree_derive-b.result d.tree_derive-c.result _ _ _ _ _ _ refl
-    d.tree_derive-a.ensures d.tree_derive-b.ensures d.tree_derive-c.ensures
-    s₂.store.ensures s₂.store-2.ensures c.store-3.ensures
+returns c = tape-made _ c.args.s c.tree_derive-a.result c.tree_derive-b.result c.tree_derive-c.result _ _ _ _ _ _ refl
+    c.tree_derive-a.ensures c.tree_derive-b.ensures c.tree_derive-c.ensures
+    c.store.ensures c.store-2.ensures c.store-3.ensures
     c.store_word.ensures c.store_word-2.ensures

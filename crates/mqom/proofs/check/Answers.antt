@@ -19,15 +19,13 @@ returns-then-msg-gt65536 c = checks-refused _ _ _ _
     (check-message _ _ _ _ (record { pk-60 = search rules; sig-3484 = search rules; work-65536 = search rules }) c.if-msg-gt65536.true)
 
 pub returns-then-ok : goal.returns-then-ok
-returns-then-ok c = let verified = c in
-    checks-accepted _ _ _ _ verified.verify-ok.new.work
+returns-then-ok c = checks-accepted _ _ _ _ c.verify-ok.new.work
     (check-yes _ _ _ _ (record { pk-60 = search rules; sig-3484 = search rules; work-65536 = search rules }) (search rules)
-    (sym verified.verify-ok.ensures ∙ c.if-ok.true))
+    (sym c.verify-ok.ensures ∙ c.if-ok.true))
     c.clear.ensures (search rules)
 
 pub returns-else-ok : goal.returns-else-ok
-returns-else-ok c = let verified = c in
-    checks-failed _ _ _ _ verified.verify-ok.new.work
+returns-else-ok c = checks-failed _ _ _ _ c.verify-ok.new.work
     (check-no _ _ _ _ (record { pk-60 = search rules; sig-3484 = search rules; work-65536 = search rules }) (search rules)
-    (sym verified.verify-ok.ensures ∙ c.if-ok.false))
+    (sym c.verify-ok.ensures ∙ c.if-ok.false))
     c.clear.ensures (search rules)

@@ -17,7 +17,6 @@ pub returns-then-work-ne65536 : goal.returns-then-work-ne65536
 returns-then-work-ne65536 c = keys-refused _ _ _ _ (keygen-work _ _ _ _ c.if-work-ne65536.true)
 
 pub returns : goal.returns
-returns c = let made = c in
-    keys-made _ _ _ _ made.make_keys.new.work
+returns c = keys-made _ _ _ _ c.make_keys.new.work
     (record { seed-32 = search rules; pk-60 = search rules; sk-88 = search rules; work-65536 = search rules })
-    made.make_keys.ensures.public made.make_keys.ensures.secret c.clear.ensures (search rules)
+    c.make_keys.ensures.public c.make_keys.ensures.secret c.clear.ensures (search rules)

@@ -38,7 +38,8 @@ returns-then-tries-gt1048576 c = signs-refused _ _ _ _ _ _ _
     (search rules) c.if-tries-gt1048576.true)
 
 pub returns : goal.returns
-returns c = let worked = c.sign-r in
+returns c =
+    let worked = c.sign-r in
     signs-worked _ _ _ _ _ _ _ worked.new.work
     (record { sk-88 = search rules; salt-16 = search rules; mseed-16 = search rules; sig-3484 = search rules; work-65536 = search rules })
     (search rules) (record { some = search rules; limit = search rules }) worked.ensures.unsolved worked.ensures.spent worked.ensures.done

@@ -10,7 +10,8 @@ pub loop-i-init : goal.loop-i-init
 loop-i-init c = (omega arith, refl, written_none _ _ _)
 
 pub loop-i-preserved : goal.loop-i-preserved
-loop-i-preserved c = let inv = c.loop-i.invariant in
+loop-i-preserved c =
+    let inv = c.loop-i.invariant in
     (omega arith, simp length-set inv.1, fill-turn _ _ _ (omega arith) (omega arith) inv.2 refl)
 
 pub returns : goal.returns

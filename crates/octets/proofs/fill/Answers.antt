@@ -10,7 +10,8 @@ pub loop-i-init : goal.loop-i-init
 loop-i-init c = (omega arith, refl, written_none _ _ _)
 
 pub loop-i-preserved : goal.loop-i-preserved
-loop-i-preserved c = let inv = c.loop-i.invariant in
+loop-i-preserved c =
+    let inv = c.loop-i.invariant in
     let l = length-replicate (length c.args.buf.now) c.args.v in
     (omega arith, simp length-set inv.1, fill-turn _ _ _ (omega arith) (omega arith) inv.2 (sym (get_or-replicate (length c.args.buf.now) c.loop-i.i _ 0 (omega arith))))
 

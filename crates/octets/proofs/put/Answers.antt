@@ -8,7 +8,7 @@ use borrow.Author.Rules.{rules}
 use Rattle.octets.proofs.put.Goals as goal
 
 pub returns : goal.returns
-returns c = let s = c in
-    let n = length s.args.text.now in
-    let e : s.args.at + n - s.args.at ≡ n = omega arith in
-    place-write s.args.at _ n _ s.args.text.now _ s.args.out.now c.copy.ensures refl refl e s.requires
+returns c =
+    let n = length c.args.text.now in
+    let e : c.args.at + n - c.args.at ≡ n = omega arith in
+    place-write c.args.at _ n _ c.args.text.now _ c.args.out.now c.copy.ensures refl refl e c.requires

@@ -11,6 +11,7 @@ use Rattle.seeds.proofs.derive_at.Goals as goal
 
 pub returns : goal.returns
 unfolding key_at part
-returns c = let a = c.args in
+returns c =
+    let a = c.args in
     let e : 176 * a.k + 176 - 176 * a.k ≡ 176 = omega arith in
     c.derive.ensures ∙ ap (λ (n : ℕ). derive_with (take n (drop (176 * a.k) a.keys.now)) (block_of a.s)) e

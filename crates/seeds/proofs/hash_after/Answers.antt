@@ -7,5 +7,6 @@ use borrow.Author.Rules.{rules}
 use Rattle.seeds.proofs.hash_after.Goals as goal
 
 pub returns : goal.returns
-returns c = let a = c.args in
+returns c =
+    let a = c.args in
     c.xof_after.ensures ∙ hash-flat a.purpose a.text.now _ (ap (λ (n : ℕ). n ∷ a.text.now) c.selector.ensures)

@@ -17,7 +17,8 @@ pub loop-i-init : goal.loop-i-init
 loop-i-init c = (omega arith, refl, keys_none _ _)
 
 pub loop-i-preserved : goal.loop-i-preserved
-loop-i-preserved c = let l = c.loop-i in
+loop-i-preserved c =
+    let l = c.loop-i in
     let p = c.put_key in (
       omega arith,
       p.auto.out ∙ l.invariant.1,
@@ -26,5 +27,6 @@ loop-i-preserved c = let l = c.loop-i in
 
 pub returns : goal.returns
 unfolding plain_keys
-returns c = let l = c.loop-i in
+returns c =
+    let l = c.loop-i in
     keys-all plain_key 104 l.i l.out (omega arith) l.invariant.0 (omega arith) l.invariant.2

@@ -11,8 +11,8 @@ use borrow.Author.Rules.{rules}
 use Rattle.seeds.proofs.put_key.Goals as goal
 
 pub returns : goal.returns
-returns c = let b = c in
-    let a = b.args in
+returns c =
+    let a = c.args in
     let e : 176 * a.k + 176 - 176 * a.k ≡ 176 = omega arith in
     place-write (176 * a.k) (176 * a.k + 176 - 176 * a.k) 176 _ (expand_key (tweak_salt (block_of a.salt) a.purpose a.e a.j)) a.out.now a.out.now
     (c.copy.ensures ∙ c.schedule-w.ensures) refl (length-expand_key _) e (omega arith)

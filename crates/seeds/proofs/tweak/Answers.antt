@@ -12,6 +12,7 @@ use Rattle.seeds.proofs.tweak.Goals as goal
 
 pub returns : goal.returns
 unfolding tweak_salt
-returns c = let a = c.args in
+returns c =
+    let a = c.args in
     block-tweak a.salt (c.selector-sel.result + 4 * a.e + 256 * a.j) (omega arith)
     ∙ ap (λ (n : ℕ). xor_b (block_of a.salt) (bytes_of 16 (n + 4 * a.e + 256 * a.j))) c.selector-sel.ensures

@@ -14,16 +14,16 @@ pub loop-k-init : goal.loop-k-init
 loop-k-init c = (omega arith, refl, keys_none _ _)
 
 pub loop-k-preserved : goal.loop-k-preserved
-loop-k-preserved c = let b = c in
+loop-k-preserved c =
     let l = c.loop-k in
     let p = c.put_tree_key in (
       omega arith,
       omega arith,
-      keys-turn (tree_key (block_of b.args.salt) b.args.e) 12 l.k _ l.out p.ensures refl (length-tree_key _ _ _) (omega arith) (omega arith) l.invariant.2,
+      keys-turn (tree_key (block_of c.args.salt) c.args.e) 12 l.k _ l.out p.ensures refl (length-tree_key _ _ _) (omega arith) (omega arith) l.invariant.2,
     )
 
 pub returns : goal.returns
 unfolding tree_keys
-returns c = let b = c in
+returns c =
     let l = c.loop-k in
-    keys-all (tree_key (block_of b.args.salt) b.args.e) 12 l.k l.out (omega arith) l.invariant.0 (omega arith) l.invariant.2
+    keys-all (tree_key (block_of c.args.salt) c.args.e) 12 l.k l.out (omega arith) l.invariant.0 (omega arith) l.invariant.2

@@ -12,26 +12,26 @@ use Rattle.signer.proofs.alphas.Goals as goal
 
 pub results-requires-clause-pk_len : goal.results-requires-clause-pk_len
 unfolding part
-results-requires-clause-pk_len c = let s = c in
-    let w = s.args.work.now in
+results-requires-clause-pk_len c =
+    let w = c.args.work.now in
     let v = c.at_vectors-v in
     let p = c.put_solution in
     let k = c.spread in
-    let g = lent v.result at_vectors 10944 v.ensures p.new.vectors w (omega (arith, s.requires)) p.auto.vectors in
-    let h = lent v.result at_vectors 10944 v.ensures k.new.vectors _ (omega (arith, s.requires, length-after g)) k.auto.vectors in (
-      length_part 0 60 s.args.sk.now (omega (arith, s.requires)),
-      length_both w _ _ _ _ _ _ s.requires.sk_len.1 g h,
-      keys-stay w _ _ _ _ _ _ s.requires.sk_len.1 g h ∙ s.requires.sk_len.2,
+    let g = lent v.result at_vectors 10944 v.ensures p.new.vectors w (omega (arith, c.requires)) p.auto.vectors in
+    let h = lent v.result at_vectors 10944 v.ensures k.new.vectors _ (omega (arith, c.requires, length-after g)) k.auto.vectors in (
+      length_part 0 60 c.args.sk.now (omega (arith, c.requires)),
+      length_both w _ _ _ _ _ _ c.requires.sk_len.1 g h,
+      keys-stay w _ _ _ _ _ _ c.requires.sk_len.1 g h ∙ c.requires.sk_len.2,
     )
 
 pub returns : goal.returns
 unfolding part public_of solution_of
-returns c = let s = c in
-    let w = s.args.work.now in
+returns c =
+    let w = c.args.work.now in
     let v = c.at_vectors-v in
     let p = c.put_solution in
     let k = c.spread in
-    let g = lent v.result at_vectors 10944 v.ensures p.new.vectors w (omega (arith, s.requires)) p.auto.vectors in
-    let h = lent v.result at_vectors 10944 v.ensures k.new.vectors _ (omega (arith, s.requires, length-after g)) k.auto.vectors in
+    let g = lent v.result at_vectors 10944 v.ensures p.new.vectors w (omega (arith, c.requires)) p.auto.vectors in
+    let h = lent v.result at_vectors 10944 v.ensures k.new.vectors _ (omega (arith, c.requires, length-after g)) k.auto.vectors in
     let r = c.results.ensures in
-    λ salt m d. all-prepared w _ _ _ _ _ _ s.requires.sk_len.1 g h s.args.sk.now _ _ p.ensures k.ensures r.rest r.adds salt m d
+    λ salt m d. all-prepared w _ _ _ _ _ _ c.requires.sk_len.1 g h c.args.sk.now _ _ p.ensures k.ensures r.rest r.adds salt m d

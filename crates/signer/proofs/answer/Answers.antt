@@ -8,25 +8,25 @@ use Rattle.signer.proofs.answer.Goals as goal
 
 pub returns-in-Found : goal.returns-in-Found
 unfolding part public_of
-returns-in-Found c = let s = c in
-    let a = s.args in
+returns-in-Found c =
+    let a = c.args in
     let f = c.first_commitment-a in
     let g = c.second_commitment-b in
     let h = c.fiat_shamir-hash in
     λ m ok hm p.
     found-answers a.sk.now a.msg.now a.salt.now m a.work.now ok f.result g.result h.result f.new.work g.new.work _ _ a.tries
-    s.requires.sk_len.0 hm s.requires.sk_len.3 p f.ensures.hash f.ensures.rest g.ensures.hash g.ensures.rest h.ensures
+    c.requires.sk_len.0 hm c.requires.sk_len.3 p f.ensures.hash f.ensures.rest g.ensures.hash g.ensures.rest h.ensures
     _ a.sig.now _ c.in-Found.ensures
     c.write_signature.ensures
 
 pub returns-in-Spent : goal.returns-in-Spent
 unfolding part public_of
-returns-in-Spent c = let s = c in
-    let a = s.args in
+returns-in-Spent c =
+    let a = c.args in
     let f = c.first_commitment-a in
     let g = c.second_commitment-b in
     let h = c.fiat_shamir-hash in
     λ m ok hm p.
     spent-answers a.sk.now a.msg.now a.salt.now m a.work.now ok f.result g.result h.result f.new.work g.new.work _ _ a.tries
-    s.requires.sk_len.0 hm s.requires.sk_len.3 p f.ensures.hash f.ensures.rest g.ensures.hash g.ensures.rest h.ensures
+    c.requires.sk_len.0 hm c.requires.sk_len.3 p f.ensures.hash f.ensures.rest g.ensures.hash g.ensures.rest h.ensures
     a.sig.now c.in-Spent.ensures

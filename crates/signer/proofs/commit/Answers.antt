@@ -12,33 +12,33 @@ use borrow.Author.Rules.{rules}
 use Rattle.signer.proofs.commit.Goals as goal
 
 pub put_roots-requires-clause-work_len : goal.put_roots-requires-clause-work_len
-put_roots-requires-clause-work_len c = let s = c in
+put_roots-requires-clause-work_len c =
     let v = c.at_vectors-v in
     let p = c.plain_keys in
-    let g = lent-front v.result 18304 v.ensures p.new.out s.args.work.now (omega (arith, s.requires)) p.auto.out in
-    (length-after g ∙ s.requires.x_len.3, keys-back s.requires.x_len.3 g p.ensures)
+    let g = lent-front v.result 18304 v.ensures p.new.out c.args.work.now (omega (arith, c.requires)) p.auto.out in
+    (length-after g ∙ c.requires.x_len.3, keys-back c.requires.x_len.3 g p.ensures)
 
 pub returns-clause-keys : goal.returns-clause-keys
-returns-clause-keys c = let s = c in
-    let a = s.args in
+returns-clause-keys c =
+    let a = c.args in
     let v = c.at_vectors-v in
     let p = c.plain_keys in
-    let g = lent-front v.result 18304 v.ensures p.new.out s.args.work.now (omega (arith, s.requires)) p.auto.out in
-    let l = length-after g ∙ s.requires.x_len.3 in
+    let g = lent-front v.result 18304 v.ensures p.new.out c.args.work.now (omega (arith, c.requires)) p.auto.out in
+    let l = length-after g ∙ c.requires.x_len.3 in
     let r = c.put_roots.ensures in
     let k = c.commit_all.ensures in
-    let m = c.load.ensures ∙ part-all 16 a.mseed.now s.requires.x_len.2 in
-    let z = c.load-2.ensures ∙ part-all 16 a.salt.now s.requires.x_len.1 in keys-end _ _ _ _ l (keys-back s.requires.x_len.3 g p.ensures) r k.keys
+    let m = c.load.ensures ∙ part-all 16 a.mseed.now c.requires.x_len.2 in
+    let z = c.load-2.ensures ∙ part-all 16 a.salt.now c.requires.x_len.1 in keys-end _ _ _ _ l (keys-back c.requires.x_len.3 g p.ensures) r k.keys
 
 pub returns-clause-adds : goal.returns-clause-adds
-returns-clause-adds c = let s = c in
-    let a = s.args in
+returns-clause-adds c =
+    let a = c.args in
     let v = c.at_vectors-v in
     let p = c.plain_keys in
-    let g = lent-front v.result 18304 v.ensures p.new.out s.args.work.now (omega (arith, s.requires)) p.auto.out in
-    let l = length-after g ∙ s.requires.x_len.3 in
+    let g = lent-front v.result 18304 v.ensures p.new.out c.args.work.now (omega (arith, c.requires)) p.auto.out in
+    let l = length-after g ∙ c.requires.x_len.3 in
     let r = c.put_roots.ensures in
     let k = c.commit_all.ensures in
-    let m = c.load.ensures ∙ part-all 16 a.mseed.now s.requires.x_len.2 in
-    let z = c.load-2.ensures ∙ part-all 16 a.salt.now s.requires.x_len.1 in subst (λ (t : List ℕ). Committed a.mseed.now t a.x.now 17 c.commit_all.new.work) z
-    (k.adds a.mseed.now (committed-start _ _ a.mseed.now _ _ a.x.now l s.requires.x_len.2 m r))
+    let m = c.load.ensures ∙ part-all 16 a.mseed.now c.requires.x_len.2 in
+    let z = c.load-2.ensures ∙ part-all 16 a.salt.now c.requires.x_len.1 in subst (λ (t : List ℕ). Committed a.mseed.now t a.x.now 17 c.commit_all.new.work) z
+    (k.adds a.mseed.now (committed-start _ _ a.mseed.now _ _ a.x.now l c.requires.x_len.2 m r))

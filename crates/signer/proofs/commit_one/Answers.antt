@@ -8,24 +8,24 @@ use borrow.Author.Rules.{rules}
 use Rattle.signer.proofs.commit_one.Goals as goal
 
 pub returns-clause-keys : goal.returns-clause-keys
-returns-clause-keys c = let s = c in
+returns-clause-keys c =
     let a = c.at_tree-a in
     let k = c.commit-l in
     let v = c.at_vectors-v in
     let p = c.put_lane in
     let z = c.keep_lines.ensures.sizes in
-    let g = lent a.result at_tree 12289 a.ensures k.new.room s.args.work.now (omega (arith, s.requires)) k.auto.room in
-    let h = lent v.result at_vectors 10944 v.ensures p.new.vectors _ (omega (arith, s.requires, length-after g)) p.auto.vectors in one-within s.args.work.now _ _ _ _ _ _ s.requires.x_len.1 g h s.args.e _ _ _ _ s.requires.x_len.2 z.0 z.1 z.2 z.3 c.keep_lines.ensures.kept
+    let g = lent a.result at_tree 12289 a.ensures k.new.room c.args.work.now (omega (arith, c.requires)) k.auto.room in
+    let h = lent v.result at_vectors 10944 v.ensures p.new.vectors _ (omega (arith, c.requires, length-after g)) p.auto.vectors in one-within c.args.work.now _ _ _ _ _ _ c.requires.x_len.1 g h c.args.e _ _ _ _ c.requires.x_len.2 z.0 z.1 z.2 z.3 c.keep_lines.ensures.kept
 
 pub returns-clause-adds : goal.returns-clause-adds
-returns-clause-adds c = let s = c in
+returns-clause-adds c =
     let a = c.at_tree-a in
     let k = c.commit-l in
     let v = c.at_vectors-v in
     let p = c.put_lane in
     let z = c.keep_lines.ensures.sizes in
-    let g = lent a.result at_tree 12289 a.ensures k.new.room s.args.work.now (omega (arith, s.requires)) k.auto.room in
-    let h = lent v.result at_vectors 10944 v.ensures p.new.vectors _ (omega (arith, s.requires, length-after g)) p.auto.vectors in λ m d.
-    let l = k.ensures m (c.load-r.ensures ∙ d.roots s.args.e s.requires.x_len.2) in
-    one-committed s.args.work.now _ _ _ _ _ _ s.requires.x_len.1 g h s.args.e _ _ _ _ s.requires.x_len.2 z.0 z.1 z.2 z.3 c.keep_lines.ensures.kept
+    let g = lent a.result at_tree 12289 a.ensures k.new.room c.args.work.now (omega (arith, c.requires)) k.auto.room in
+    let h = lent v.result at_vectors 10944 v.ensures p.new.vectors _ (omega (arith, c.requires, length-after g)) p.auto.vectors in λ m d.
+    let l = k.ensures m (c.load-r.ensures ∙ d.roots c.args.e c.requires.x_len.2) in
+    one-committed c.args.work.now _ _ _ _ _ _ c.requires.x_len.1 g h c.args.e _ _ _ _ c.requires.x_len.2 z.0 z.1 z.2 z.3 c.keep_lines.ensures.kept
     m _ _ _ p.ensures l.x0-is l.hash-is l.correction-is l.u0-is l.u1-is d

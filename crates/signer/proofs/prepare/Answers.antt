@@ -7,5 +7,6 @@ use Rattle.signer.proofs.prepare.Goals as goal
 
 pub returns : goal.returns
 unfolding part solution_of
-returns c = let a = c.args in
+returns c =
+    let a = c.args in
     c.alphas.ensures a.salt.now a.mseed.now c.commit.ensures.adds

@@ -14,12 +14,11 @@ use Rattle.signer.proofs.put_root.Goals as goal
 
 pub plain_block-r-requires-clause-keys_value : goal.plain_block-r-requires-clause-keys_value
 unfolding part
-plain_block-r-requires-clause-keys_value c = let s = c in
-    (ap (λ (k : ℕ). part 0 k s.args.work.now) c.at_vectors-v.ensures ∙ s.requires.work_len.1, omega arith)
+plain_block-r-requires-clause-keys_value c = (ap (λ (k : ℕ). part 0 k c.args.work.now) c.at_vectors-v.ensures ∙ c.requires.work_len.1, omega arith)
 
 pub returns : goal.returns
-returns c = let s = c in
-    let a = s.args in
+returns c =
+    let a = c.args in
     c.store.ensures
     ∙ ap (λ (l : List ℕ). place (43360 + 16 * a.e) l a.work.now)
-    (c.plain_block-r.ensures ∙ rseed-block (block_of a.m) (length-block_of a.m) a.e s.requires.work_len.2)
+    (c.plain_block-r.ensures ∙ rseed-block (block_of a.m) (length-block_of a.m) a.e c.requires.work_len.2)

@@ -18,17 +18,17 @@ pub loop-e-init : goal.loop-e-init
 loop-e-init c = (omega arith, roots-none (block_of c.args.m) c.args.work.now)
 
 pub put_root-requires-clause-work_len : goal.put_root-requires-clause-work_len
-put_root-requires-clause-work_len c = let l = c.loop-e in
-    let s = c in
-    let w = s.args.work.now in
-    let f = joined l.e (rseed (block_of s.args.m)) in (
-      ap length l.invariant.1 ∙ length-place at_roots f w ∙ s.requires.work_len.0,
-      ap (part 0 18304) l.invariant.1 ∙ part-before 0 18304 at_roots f w (omega arith) (omega arith) ∙ s.requires.work_len.1,
+put_root-requires-clause-work_len c =
+    let l = c.loop-e in
+    let w = c.args.work.now in
+    let f = joined l.e (rseed (block_of c.args.m)) in (
+      ap length l.invariant.1 ∙ length-place at_roots f w ∙ c.requires.work_len.0,
+      ap (part 0 18304) l.invariant.1 ∙ part-before 0 18304 at_roots f w (omega arith) (omega arith) ∙ c.requires.work_len.1,
       omega arith,
     )
 
 pub loop-e-preserved : goal.loop-e-preserved
-loop-e-preserved c = let b = c in
-    let l = b.loop-e in
-    let a = b.args in
+loop-e-preserved c =
+    let l = c.loop-e in
+    let a = c.args in
     (omega arith, roots-turn (block_of a.m) (length-block_of a.m) l.e a.work.now l.work _ (omega arith) l.invariant.1 c.put_root.ensures)

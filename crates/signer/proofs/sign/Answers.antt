@@ -6,8 +6,8 @@ use borrow.Author.Rules.{rules}
 use Rattle.signer.proofs.sign.Goals as goal
 
 pub returns : goal.returns
-returns c = let s = c in
-    let a = s.args in
+returns c =
+    let a = c.args in
     let p = c.prepare in
     signed-answer a.sk.now a.msg.now a.salt.now a.mseed.now _ a.tries _ a.sig.now p.ensures _ _ c.if-not-prepare.false
-    (c.answer.ensures a.mseed.now _ s.requires.2 p.ensures)
+    (c.answer.ensures a.mseed.now _ c.requires.2 p.ensures)

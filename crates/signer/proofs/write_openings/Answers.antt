@@ -15,8 +15,8 @@ loop-e-init c = (omega arith, refl, λ m g. openings-start m _ _ _ _)
 
 pub loop-e-preserved : goal.loop-e-preserved
 unfolding opening_at hidden_in
-loop-e-preserved c = let s = c in
-    let a = s.args in
+loop-e-preserved c =
+    let a = c.args in
     let l = c.loop-e in
     let k = c.write_opening in (
       omega arith,
@@ -24,5 +24,5 @@ loop-e-preserved c = let s = c in
       λ m g.
           k.ensures m g
           ∙ ap (opening_at m _ a.x.now (hidden_in a.c.now) l.e) (l.invariant.2 m g)
-          ∙ openings-turn m _ a.x.now (hidden_in a.c.now) g.seed s.requires.x_len.0 (λ k. (c.type_inv.c k).fits) l.e a.sig.now (omega arith),
+          ∙ openings-turn m _ a.x.now (hidden_in a.c.now) g.seed c.requires.x_len.0 (λ k. (c.type_inv.c k).fits) l.e a.sig.now (omega arith),
     )

@@ -15,9 +15,9 @@ use Rattle.signer.proofs.write_signature.Goals as goal
 
 pub returns : goal.returns
 unfolding part solution_of
-returns c = let s = c in
-    let a = s.args in
-    let q = s.requires.sk_len in
+returns c =
+    let a = c.args in
+    let q = c.requires.sk_len in
     let h = c.write_head in
     let p = c.put_nonce in
     let b = c.load.ensures ∙ part-all 16 a.salt.now q.1 in

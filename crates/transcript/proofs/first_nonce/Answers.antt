@@ -8,19 +8,22 @@ use Rattle.transcript.proofs.Nonces.{passing, Searching, searching-start, search
 use Rattle.transcript.proofs.first_nonce.Goals as goal
 
 pub loop-nonce-preserved : goal.loop-nonce-preserved
-loop-nonce-preserved c = let l = c.loop-nonce in
+loop-nonce-preserved c =
+    let l = c.loop-nonce in
     let a = c.args in
     let t = c.test in
     searching-turn a.hash.now a.tries l.p l.nonce l.invariant (omega arith) t.ensures.0
     (sym (searching-test a.hash.now a.tries l.p l.nonce l.invariant t.ensures.0 t.ensures.1) ∙ c.if-test.false)
 
 pub returns-then-nonce-tries : goal.returns-then-nonce-tries
-returns-then-nonce-tries c = let l = c.loop-nonce in
+returns-then-nonce-tries c =
+    let l = c.loop-nonce in
     let a = c.args in
     search-spent (passing a.hash.now) a.tries (λ k h. l.invariant.missed k (omega arith))
 
 pub returns-then-test : goal.returns-then-test
-returns-then-test c = let l = c.loop-nonce in
+returns-then-test c =
+    let l = c.loop-nonce in
     let a = c.args in
     let t = c.test in
     search-found (passing a.hash.now) a.tries l.nonce (omega arith)

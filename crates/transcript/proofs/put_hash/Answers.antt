@@ -9,7 +9,7 @@ use borrow.Author.Rules.{rules}
 use Rattle.transcript.proofs.put_hash.Goals as goal
 
 pub returns : goal.returns
-returns c = let s = c in
+returns c =
     let v = c.selector in
-    front-two 32 33 v.result s.args.hash.now s.args.p.now s.requires.0 refl (omega arith) c.put.ensures
-    ∙ ap (λ (x : ℕ). x ∷ s.args.hash.now) v.ensures
+    front-two 32 33 v.result c.args.hash.now c.args.p.now c.requires.0 refl (omega arith) c.put.ensures
+    ∙ ap (λ (x : ℕ). x ∷ c.args.hash.now) v.ensures

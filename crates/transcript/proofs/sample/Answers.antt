@@ -5,6 +5,5 @@ use borrow.Author.Rules.{rules}
 use Rattle.transcript.proofs.sample.Goals as goal
 
 pub returns : goal.returns
-returns c = let s = c in
-    c.xof.ensures
-    ∙ challenge-flat s.args.hash.now s.args.nonce.now _ c.put_hash.ensures s.requires.1 c.put_hash.auto.p c.put.ensures
+returns c = c.xof.ensures
+    ∙ challenge-flat c.args.hash.now c.args.nonce.now _ c.put_hash.ensures c.requires.1 c.put_hash.auto.p c.put.ensures

@@ -9,7 +9,7 @@ use borrow.Author.Rules.{rules}
 use Rattle.transcript.proofs.test.Goals as goal
 
 pub returns : goal.returns
-returns c = let s = c in (
-  place-write 33 4 4 _ (bytes_of 4 s.args.nonce) _ s.args.p.now c.put_nonce.ensures refl (length-bytes_of 4 s.args.nonce) refl (omega arith),
+returns c = (
+  place-write 33 4 4 _ (bytes_of 4 c.args.nonce) _ c.args.p.now c.put_nonce.ensures refl (length-bytes_of 4 c.args.nonce) refl (omega arith),
   c.passes.ensures ∙ ap passes c.xof.ensures,
 )

@@ -14,12 +14,14 @@ use Rattle.workspace.proofs.first_commitment.Goals as goal
 
 pub returns-clause-hash : goal.returns-clause-hash
 unfolding part
-returns-clause-hash c = let w = c.args.work.now in
+returns-clause-hash c =
+    let w = c.args.work.now in
     let stored : set w 41600 c.selector.result ≡ place 41600 (selector for_commitment ∷ []) w = ap (set w 41600) c.selector.ensures ∙ set-place 41600 (selector for_commitment) w in
     c.hash32.ensures ∙ hash-flat for_commitment (part 41601 748 w) _ (ap (part 41600 749) stored ∙ part-headed 41600 748 (selector for_commitment) w (omega arith))
 
 pub returns-clause-rest : goal.returns-clause-rest
 unfolding part
-returns-clause-rest c = let w = c.args.work.now in
+returns-clause-rest c =
+    let w = c.args.work.now in
     let stored : set w 41600 c.selector.result ≡ place 41600 (selector for_commitment ∷ []) w = ap (set w 41600) c.selector.ensures ∙ set-place 41600 (selector for_commitment) w in
     stored

@@ -14,12 +14,14 @@ use Rattle.workspace.proofs.second_commitment.Goals as goal
 
 pub returns-clause-hash : goal.returns-clause-hash
 unfolding part
-returns-clause-hash c = let w = c.args.work.now in
+returns-clause-hash c =
+    let w = c.args.work.now in
     let stored : set w 42400 c.selector.result ≡ place 42400 (selector for_alphas ∷ []) w = ap (set w 42400) c.selector.ensures ∙ set-place 42400 (selector for_alphas) w in
     c.hash32.ensures ∙ hash-flat for_alphas (part 42401 952 w) _ (ap (part 42400 953) stored ∙ part-headed 42400 952 (selector for_alphas) w (omega arith))
 
 pub returns-clause-rest : goal.returns-clause-rest
 unfolding part
-returns-clause-rest c = let w = c.args.work.now in
+returns-clause-rest c =
+    let w = c.args.work.now in
     let stored : set w 42400 c.selector.result ≡ place 42400 (selector for_alphas ∷ []) w = ap (set w 42400) c.selector.ensures ∙ set-place 42400 (selector for_alphas) w in
     stored

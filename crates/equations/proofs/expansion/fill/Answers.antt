@@ -19,7 +19,8 @@ pub loop-i-init : goal.loop-i-init
 loop-i-init c = (omega arith, refl, part_none 0 16 _ _)
 
 pub loop-i-preserved : goal.loop-i-preserved
-loop-i-preserved c = let l = c.loop-i in
+loop-i-preserved c =
+    let l = c.loop-i in
     let s = c.args.s in
     let y = c.plain_block-y in
     let e = c.store.ensures in (
@@ -29,7 +30,8 @@ loop-i-preserved c = let l = c.loop-i in
     )
 
 pub returns : goal.returns
-returns c = let l = c.loop-i in
+returns c =
+    let l = c.loop-i in
     let s = c.args.s in
     let y = c.plain_block-y-2 in
     blocks_end (block_of s) (length-block_of s) l.q (block_of y.result) (bytes_of 4 y.result.a) l.i (omega arith) l.invariant.1 l.invariant.2

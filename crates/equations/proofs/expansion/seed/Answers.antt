@@ -16,7 +16,8 @@ use Rattle.equations.proofs.expansion.seed.Goals as goal
 
 pub returns : goal.returns
 unfolding seed_eq
-returns c = let m = c.args.mseed.now in
+returns c =
+    let m = c.args.mseed.now in
     let i = c.args.i in
     let e = c.xof.ensures in
     c.load.ensures ∙ part-all 16 _ (ap length e ∙ length-shake128 _ 16) ∙ e
