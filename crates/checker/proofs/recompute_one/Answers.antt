@@ -28,7 +28,8 @@ returns-clause-keys c =
     let b = c.at_vectors-v in
     let a = c.at_alpha0-a in
     let y = c.add_column in
-    let f = lent a.result at_alpha0 476 a.ensures y.new.out w (omega (arith, h)) y.auto.out in recomputed-keys w _ _ _ h.1 f c.requires.work_value
+    let f = lent a.result at_alpha0 476 a.ensures y.new.out w (omega (arith, h)) y.auto.out in
+    recomputed-keys w _ _ _ h.1 f c.requires.work_value
 
 pub returns-clause-adds : goal.returns-clause-adds
 unfolding part mseed_eq_of
@@ -40,4 +41,5 @@ returns-clause-adds c =
     let b = c.at_vectors-v in
     let a = c.at_alpha0-a in
     let y = c.add_column in
-    let f = lent a.result at_alpha0 476 a.ensures y.new.out w (omega (arith, h)) y.auto.out in recomputed-one w _ _ _ h.1 f c.args.pk.now _ _ _ c.args.i h.2 q (slice_at b.result at_vectors 10944 b.ensures w) z y.ensures
+    let f = lent a.result at_alpha0 476 a.ensures y.new.out w (omega (arith, h)) y.auto.out in
+    recomputed-one w _ _ _ h.1 f c.args.pk.now _ _ _ c.args.i h.2 q (slice_at b.result at_vectors 10944 b.ensures w) z y.ensures

@@ -17,12 +17,14 @@ use Rattle.ggm.proofs.+open_path.Goals as goal
 pub returns-then-d-eq0-clause-siblings : goal.returns-then-d-eq0-clause-siblings
 returns-then-d-eq0-clause-siblings t c =
     let a = c.args in
-    let z = c.if-d-eq0.true in length-nil a.path.now (omega arith) ∙ sym (path-zero (derive_by a.keys.now) a.d a.j a.hidden (block_of a.s) z)
+    let z = c.if-d-eq0.true in
+    length-nil a.path.now (omega arith) ∙ sym (path-zero (derive_by a.keys.now) a.d a.j a.hidden (block_of a.s) z)
 
 pub returns-then-d-eq0-clause-leaf : goal.returns-then-d-eq0-clause-leaf
 returns-then-d-eq0-clause-leaf t c =
     let a = c.args in
-    let z = c.if-d-eq0.true in leaf-zero (derive_by a.keys.now) a.d a.j a.hidden (block_of a.s) z (omega arith)
+    let z = c.if-d-eq0.true in
+    leaf-zero (derive_by a.keys.now) a.d a.j a.hidden (block_of a.s) z (omega arith)
 
 pub open_path-requires-else-hidden-h : goal.open_path-requires-else-hidden-h
 open_path-requires-else-hidden-h t c =
@@ -41,7 +43,8 @@ returns-then-hidden-h-clause-siblings t c =
     let r = c.add-r.ensures in
     let k = c.add-r.result in
     let m : length a.path.now ≡ 16 * (a.d - 1) + length (block_of k) = omega (arith, length-block_of k) in
-    let p = drop-place (16 * (a.d - 1)) (block_of k) a.path.now c.store.ensures m in path-join-left f a.d a.j a.hidden _ (block_of a.s) _ _ _ _ z n h l r e.ensures.siblings p
+    let p = drop-place (16 * (a.d - 1)) (block_of k) a.path.now c.store.ensures m in
+    path-join-left f a.d a.j a.hidden _ (block_of a.s) _ _ _ _ z n h l r e.ensures.siblings p
 
 pub returns-then-hidden-h-clause-leaf : goal.returns-then-hidden-h-clause-leaf
 returns-then-hidden-h-clause-leaf t c =
@@ -52,10 +55,7 @@ returns-then-hidden-h-clause-leaf t c =
     let n = c.half-h.ensures in
     let h = c.if-hidden-h.true in
     let l = c.child-l.ensures in
-    let r = c.add-r.ensures in
-    let k = c.add-r.result in
-    let m : length a.path.now ≡ 16 * (a.d - 1) + length (block_of k) = omega (arith, length-block_of k) in
-    let p = drop-place (16 * (a.d - 1)) (block_of k) a.path.now c.store.ensures m in leaf-join-left f a.d a.j a.hidden _ (block_of a.s) _ _ z n h l e.ensures.leaf
+    leaf-join-left f a.d a.j a.hidden _ (block_of a.s) _ _ z n h l e.ensures.leaf
 
 pub returns-else-hidden-h-clause-siblings : goal.returns-else-hidden-h-clause-siblings
 returns-else-hidden-h-clause-siblings t c =
@@ -69,7 +69,8 @@ returns-else-hidden-h-clause-siblings t c =
     let r = c.add-r.ensures in
     let k = c.child-l.result in
     let m : length a.path.now ≡ 16 * (a.d - 1) + length (block_of k) = omega (arith, length-block_of k) in
-    let p = drop-place (16 * (a.d - 1)) (block_of k) a.path.now c.store-else-hidden-h.ensures m in path-join-right f a.d a.j a.hidden _ (block_of a.s) _ _ _ _ z n h l r e.ensures.siblings p
+    let p = drop-place (16 * (a.d - 1)) (block_of k) a.path.now c.store-else-hidden-h.ensures m in
+    path-join-right f a.d a.j a.hidden _ (block_of a.s) _ _ _ _ z n h l r e.ensures.siblings p
 
 pub returns-else-hidden-h-clause-leaf : goal.returns-else-hidden-h-clause-leaf
 returns-else-hidden-h-clause-leaf t c =
@@ -81,6 +82,4 @@ returns-else-hidden-h-clause-leaf t c =
     let h = c.if-hidden-h.false in
     let l = c.child-l.ensures in
     let r = c.add-r.ensures in
-    let k = c.child-l.result in
-    let m : length a.path.now ≡ 16 * (a.d - 1) + length (block_of k) = omega (arith, length-block_of k) in
-    let p = drop-place (16 * (a.d - 1)) (block_of k) a.path.now c.store-else-hidden-h.ensures m in leaf-join-right f a.d a.j a.hidden _ (block_of a.s) _ _ _ z n h l r e.ensures.leaf
+    leaf-join-right f a.d a.j a.hidden _ (block_of a.s) _ _ _ z n h l r e.ensures.leaf

@@ -35,10 +35,6 @@ returns-then-hidden-lt128-clause-leaf c =
     let f = derive_by a.keys.now in
     let e = c.open_path in
     let h = c.if-hidden-lt128.true in
-    let o = c.add-o.ensures in
-    let k = c.add-o.result in
-    let m : length a.path.now ≡ 112 + length (block_of k) = omega (arith, length-block_of k, c.requires.keys_len.1) in
-    let p = drop-place 112 (block_of k) a.path.now c.store.ensures m in
     tree-leaf-left f 7 a.hidden 128 (block_of a.r) (block_of a.delta) _ refl h e.ensures.leaf
 
 pub returns-else-hidden-lt128-clause-siblings : goal.returns-else-hidden-lt128-clause-siblings
@@ -60,9 +56,6 @@ returns-else-hidden-lt128-clause-leaf c =
     let e = c.open_path-else-hidden-lt128 in
     let h = c.if-hidden-lt128.false in
     let o = c.add-o.ensures in
-    let k = a.r in
-    let m : length a.path.now ≡ 112 + length (block_of k) = omega (arith, length-block_of k, c.requires.keys_len.1) in
-    let p = drop-place 112 (block_of k) a.path.now c.store-else-hidden-lt128.ensures m in
     tree-leaf-right f 7 a.hidden 128 (block_of a.r) (block_of a.delta) _ _ refl h o e.ensures.leaf
 
 pub slice_bounds-open_path-end-then-hidden-lt128 : goal.slice_bounds-open_path-end-then-hidden-lt128

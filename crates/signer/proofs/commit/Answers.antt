@@ -27,8 +27,7 @@ returns-clause-keys c =
     let l = length-after g ∙ c.requires.x_len.3 in
     let r = c.put_roots.ensures in
     let k = c.commit_all.ensures in
-    let m = c.load.ensures ∙ part-all 16 a.mseed.now c.requires.x_len.2 in
-    let z = c.load-2.ensures ∙ part-all 16 a.salt.now c.requires.x_len.1 in keys-end _ _ _ _ l (keys-back c.requires.x_len.3 g p.ensures) r k.keys
+    keys-end _ _ _ _ l (keys-back c.requires.x_len.3 g p.ensures) r k.keys
 
 pub returns-clause-adds : goal.returns-clause-adds
 returns-clause-adds c =
@@ -40,5 +39,6 @@ returns-clause-adds c =
     let r = c.put_roots.ensures in
     let k = c.commit_all.ensures in
     let m = c.load.ensures ∙ part-all 16 a.mseed.now c.requires.x_len.2 in
-    let z = c.load-2.ensures ∙ part-all 16 a.salt.now c.requires.x_len.1 in subst (λ (t : List ℕ). Committed a.mseed.now t a.x.now 17 c.commit_all.new.work) z
+    let z = c.load-2.ensures ∙ part-all 16 a.salt.now c.requires.x_len.1 in
+    subst (λ (t : List ℕ). Committed a.mseed.now t a.x.now 17 c.commit_all.new.work) z
     (k.adds a.mseed.now (committed-start _ _ a.mseed.now _ _ a.x.now l c.requires.x_len.2 m r))

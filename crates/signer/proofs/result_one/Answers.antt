@@ -27,7 +27,8 @@ returns-clause-rest c =
     let b = c.at_alpha1-b in
     let l = c.add_column-2 in
     let g = lent a.result at_alpha0 476 a.ensures k.new.out c.args.work.now (omega (arith, c.requires)) k.auto.out in
-    let h = lent b.result at_alpha1 476 b.ensures l.new.out _ (omega (arith, c.requires, length-after g)) l.auto.out in one-within i w _ _ _ _ _ _ c.requires.pk_len.3 c.requires.pk_len.1 g h
+    let h = lent b.result at_alpha1 476 b.ensures l.new.out _ (omega (arith, c.requires, length-after g)) l.auto.out in
+    one-within i w _ _ _ _ _ _ c.requires.pk_len.3 c.requires.pk_len.1 g h
 
 pub returns-clause-adds : goal.returns-clause-adds
 unfolding part mseed_eq_of
@@ -40,5 +41,6 @@ returns-clause-adds c =
     let b = c.at_alpha1-b in
     let l = c.add_column-2 in
     let g = lent a.result at_alpha0 476 a.ensures k.new.out c.args.work.now (omega (arith, c.requires)) k.auto.out in
-    let h = lent b.result at_alpha1 476 b.ensures l.new.out _ (omega (arith, c.requires, length-after g)) l.auto.out in one-adds i w _ _ _ _ _ _ c.requires.pk_len.3 c.requires.pk_len.1 g h c.args.pk.now _ _ _ _ c.expand-q.ensures
+    let h = lent b.result at_alpha1 476 b.ensures l.new.out _ (omega (arith, c.requires, length-after g)) l.auto.out in
+    one-adds i w _ _ _ _ _ _ c.requires.pk_len.3 c.requires.pk_len.1 g h c.args.pk.now _ _ _ _ c.expand-q.ensures
     (slice_at v.result at_vectors 10944 v.ensures w) c.on_lines-z.ensures k.ensures l.ensures
