@@ -9,7 +9,7 @@ import sys
 sys.dont_write_bytecode = True
 from tally import finish, tell
 
-KIT = {"check", "libc", "io", "os", "bytes"}
+KIT = {"check", "io"}
 LIMIT = 400
 
 

@@ -1,7 +1,7 @@
 #!/usr/bin/env python3
 """reasons.py LOG: each must-fail edit was refused for the fact that it names, not for the shape of the code.
 
-An edit has a line 'fact: NAME: WORDS': NAME is the theorem or goal that the prover refuses first, WORDS stand in what rt prints of it. LOG
+An edit has a line '# fact: NAME: WORDS': NAME is the theorem or goal that the prover refuses first, WORDS stand in what rt prints of it. LOG
 is what `rt ci` printed; of a refusal it has the first 160 characters. The last line is 'N passed, M failed'."""
 import glob
 import os
@@ -32,9 +32,9 @@ for line in open(sys.argv[1], encoding="utf8"):
 
 for edit in sorted(glob.glob("crates/*/must-fail/*.edit")):
     crate, label = edit.split("/")[1], os.path.basename(edit)
-    facts = re.findall(r"^fact: ([^:\s]+): (\S.*)$", open(edit, encoding="utf8").read(), re.M)
+    facts = re.findall(r"^# fact: ([^:\s]+): (\S.*)$", open(edit, encoding="utf8").read(), re.M)
     if len(facts) != 1:
-        tell(False, f"{edit}: {len(facts)} lines 'fact: NAME: WORDS'")
+        tell(False, f"{edit}: {len(facts)} lines '# fact: NAME: WORDS'")
         continue
     told = logged.get(f"{crate}/{label}")
     if told is None:

@@ -1,7 +1,6 @@
 -- A worked example, by computing: the points of document 001's section 3.1 are Gray codes, which differ from plain numbers first at 2.
 -- Assumes nothing.
 use mathlib.Core.Path.{◌≡◌, refl}
-use Prim.Native.Nat.{ℕ}
 use Rattle.octets.specs.Xor.{◌⊕◌}
 use Rattle.algebra.specs.Folding.{point}
 

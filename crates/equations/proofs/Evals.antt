@@ -16,7 +16,7 @@ use Rattle.field.specs.Vec.{sum, mat, row_start}
 use Rattle.field.proofs.Field.{⊗-⊕-l, ⊗-assoc, ⊗-zero-r, ⊗-one-l, ⊗-mod-r}
 use Rattle.field.proofs.Sum.{sum-ext, sum-⊕}
 use Rattle.field.proofs.Loops.{sum-start}
-use Rattle.algebra.specs.Line.{equation_in, form, z_at}
+use Rattle.algebra.specs.Line.{equation_in, z_at}
 use Rattle.algebra.proofs.Equation.{dot-⊕-l}
 use Rattle.equations.specs.Lanes.{Masks, folded, row_on, OnLines}
 use Rattle.equations.proofs.Rows.{sofar, vec-sofar, sofar-first, sofar-turn, sofar-end}

@@ -1,11 +1,11 @@
 -- The values of a key's equations, one after the other, and the keys laid out of their parts. Assumes nothing.
-use mathlib.Core.Path.{◌≡◌, refl, sym, ap, ap₂, ◌∙◌}
+use mathlib.Core.Path.{◌≡◌, sym, ap, ap₂, ◌∙◌}
 use mathlib.Core.List.{List, [], ◌++◌, append-nil}
 use Prim.Native.Nat.{ℕ, ◌+◌, ◌<◌}
 use native.Mathlib.Omega.{arith}
 use lib.ListN.{length, take, drop, drop_of_length-le}
 use lib.Seq.{take_at, drop_at, drop-drop}
-use Rattle.octets.specs.Lists.{vec, part}
+use Rattle.octets.specs.Lists.{vec}
 use Rattle.octets.proofs.Tab.{length-tab, vec-tab}
 use Rattle.field.specs.Vec.{lifted}
 use Rattle.algebra.specs.Line.{form, equation_in}

@@ -6,7 +6,7 @@ use native.Mathlib.Omega.{arith}
 use native.Mathlib.Nat.{zero-add, suc-add, le_of_suc-le-suc, not-suc-le-zero}
 use lib.ListN.{length, take, drop}
 use lib.Seq.{take-nil, take-append-le, length-take-le}
-use Rattle.octets.specs.Lists.{joined, part}
+use Rattle.octets.specs.Lists.{joined}
 use Rattle.octets.specs.Place.{over, place}
 use Rattle.octets.proofs.Part.{joined-suc}
 

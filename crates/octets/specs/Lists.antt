@@ -1,6 +1,6 @@
 -- Lists of bytes as document 001 has them (2.3): made of a function, laid end to end, taken apart at fixed places. A list is read
 -- by `vec`, which gives 0 past its end, so that no definition asks for a length. Definitions only.
-use Rattle.std.specs.Prelude.{List, [], ◌∷◌, ◌++◌, Bool, true, false, ◌&&◌, ℕ, zero, suc, ◌+◌, ◌*◌, ◌/◌, ◌%◌, ◌<◌, eqb, get_or, take, drop, replicate}
+use Rattle.std.specs.Prelude.{List, [], ◌∷◌, ◌++◌, Bool, true, false, ◌&&◌, ℕ, zero, suc, ◌+◌, ◌/◌, ◌%◌, ◌<◌, eqb, get_or, take, drop, replicate}
 
 -- ---- a list and a function
 

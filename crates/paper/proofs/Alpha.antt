@@ -1,7 +1,7 @@
 -- The result lines: what the checker works out is what the signer committed to. Assumes nothing.
 use mathlib.Core.Path.{◌≡◌, sym, ap, ap₂, ◌∙◌, fun_ext}
 use mathlib.Core.List.{List}
-use Prim.Native.Nat.{ℕ, ◌+◌, ◌*◌, ◌<◌}
+use Prim.Native.Nat.{ℕ, ◌*◌, ◌<◌}
 use lib.ListN.{length}
 use Rattle.octets.specs.Lists.{vec, tab, part, joined}
 use Rattle.algebra.specs.Line.{IsRow, Solves, Opens, alpha1, batch, z_at, value_of, checked0, line}

@@ -8,7 +8,7 @@ use Prim.Native.Nat.{ℕ, zero, suc, ◌+◌, ◌-◌, ◌<◌, ◌≤◌}
 use native.Mathlib.Nat.{eq-or-lt_of_le}
 use native.Mathlib.Omega.{arith}
 use Rattle.paper.specs.Symmetric.{for_challenge}
-use Rattle.paper.specs.Challenge.{challenge, hidden_in, passes, only_if, or_else, first_below}
+use Rattle.paper.specs.Challenge.{challenge, hidden_in, only_if, or_else, first_below}
 use Rattle.paper.proofs.Symmetric.{bytes-xof}
 use Rattle.octets.proofs.Bounds.{bytes-at}
 

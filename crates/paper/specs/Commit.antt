@@ -1,6 +1,6 @@
 -- Document 001, section 2.5.2 (algorithms 10 to 12) over the trees of 2.5.3: 17 trees of 256 leaves. η is the number of bytes of a mask.
 -- Algorithm 13 is in the algebra, beside the proof that it gives the sums below. Definitions only.
-use Rattle.std.specs.Prelude.{List, [], ◌++◌, cond, ℕ, ◌+◌, ◌*◌, ◌/◌, eqb, get_or}
+use Rattle.std.specs.Prelude.{List, [], ◌++◌, cond, ℕ, ◌+◌, ◌*◌, eqb, get_or}
 use Rattle.octets.specs.Xor.{◌⊕◌}
 use Rattle.octets.specs.Lists.{vec, tab, part, joined, flat, zero16}
 use Rattle.field.specs.Gf.{◌⊗◌}

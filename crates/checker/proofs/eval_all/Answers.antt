@@ -1,9 +1,8 @@
 -- `checker::eval_all` meets its contract. Assumes nothing.
-use mathlib.Core.Path.{sym, refl, ◌∙◌}
-use Prim.Native.Nat.{◌-◌}
+use mathlib.Core.Path.{refl}
 use native.Mathlib.Omega.{arith}
 use Rattle.paper.specs.Challenge.{hidden_in}
-use Rattle.checker.proofs.Evaluating.{EvaluatedTo, evaluated-none, loop-turn, loop-end}
+use Rattle.checker.proofs.Evaluating.{evaluated-none, loop-turn}
 use Rattle.checker.proofs.eval_all.Goals as goal
 
 pub loop-e-init : goal.loop-e-init

@@ -1,15 +1,11 @@
 -- `checker::eval_one` meets its contract. Assumes nothing.
-use mathlib.Core.Path.{sym, ap, ◌∙◌}
 use native.Mathlib.Omega.{arith}
-use lib.ListN.{length}
 use Rattle.octets.specs.Lists.{part}
 use Rattle.paper.specs.Alpha.{r3}
 use Rattle.paper.specs.Scheme.{sig_salt, sig_alpha1, sig_paths, sig_outs, sig_sent}
-use Rattle.octets.proofs.Place.{length-place}
 use Rattle.workspace.specs.Map.{at_vectors, at_tree}
-use Rattle.workspace.proofs.Lent.{length-after, length-slice, lent}
-use Rattle.checker.proofs.Lent.{length-path, length-out, length-sent, length-alpha1, path-is, out-is, sent_is, alpha1-is, length-vectors, evaluated-code}
-use borrow.Author.Rules.{rules}
+use Rattle.workspace.proofs.Lent.{length-after, lent}
+use Rattle.checker.proofs.Lent.{path-is, out-is, sent_is, alpha1-is, evaluated-code}
 use Rattle.checker.proofs.eval_one.Goals as goal
 
 pub returns : goal.returns

@@ -3,7 +3,6 @@ use mathlib.Core.Path.{◌∙◌}
 use Rattle.octets.specs.Lists.{part}
 use Rattle.paper.specs.Challenge.{hidden_in}
 use Rattle.checker.proofs.Lent.{evaluate-holds, evaluate-same}
-use borrow.Author.Rules.{rules}
 use Rattle.checker.proofs.evaluate.Goals as goal
 
 pub returns-clause-holds : goal.returns-clause-holds

@@ -1,14 +1,10 @@
 -- `checker::recompute` meets its contract. Assumes nothing.
-use mathlib.Core.Path.{sym, ap, ◌∙◌}
+use mathlib.Core.Path.{◌∙◌}
 use native.Mathlib.Omega.{arith}
-use lib.ListN.{length, length-take}
 use Rattle.octets.specs.Lists.{part}
-use Rattle.octets.proofs.Part.{length_part}
-use Rattle.octets.proofs.Place.{length-place}
 use Rattle.workspace.specs.Map.{at_vectors}
 use Rattle.workspace.proofs.Lent.{length-after, lent, lent-front}
 use Rattle.checker.proofs.Lent.{length-masks, keys-stand, recompute-same}
-use borrow.Author.Rules.{rules}
 use Rattle.checker.proofs.recompute.Goals as goal
 
 pub recompute_all-requires-clause-work_value : goal.recompute_all-requires-clause-work_value

@@ -1,8 +1,6 @@
 -- `checker::recompute_all` meets its contract. Assumes nothing.
-use mathlib.Core.Path.{sym, ◌∙◌}
-use Prim.Native.Nat.{◌-◌}
 use native.Mathlib.Omega.{arith}
-use Rattle.checker.proofs.Recomputing.{RecomputedTo, loop-none, loop-turn, loop-end}
+use Rattle.checker.proofs.Recomputing.{loop-turn, loop-end}
 use Rattle.checker.proofs.recompute_all.Goals as goal
 
 pub loop-i-preserved : goal.loop-i-preserved

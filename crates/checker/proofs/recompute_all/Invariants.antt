@@ -1,8 +1,6 @@
 -- `checker::recompute_all` meets its contract. Assumes nothing.
-use mathlib.Core.Path.{sym, ◌∙◌}
 use Prim.Native.Nat.{◌-◌}
-use native.Mathlib.Omega.{arith}
-use Rattle.checker.proofs.Recomputing.{RecomputedTo, loop-none, loop-turn, loop-end}
+use Rattle.checker.proofs.Recomputing.{RecomputedTo}
 use Rattle.checker.proofs.recompute_all.Given as goal
 
 abbrev pub invariant-loop-i : goal.invariant-loop-i

@@ -2,14 +2,11 @@
 use mathlib.Core.Path.{ap, ◌∙◌}
 use Prim.Native.Nat.{ℕ}
 use native.Mathlib.Omega.{arith}
-use lib.ListN.{length-take}
 use Rattle.octets.specs.Lists.{part}
-use Rattle.octets.proofs.Part.{length_part}
 use Rattle.paper.specs.Keys.{mseed_eq_of}
 use Rattle.workspace.specs.Map.{at_vectors, at_alpha0}
-use Rattle.workspace.proofs.Lent.{length-slice, slice_at, lent}
+use Rattle.workspace.proofs.Lent.{slice_at, lent}
 use Rattle.checker.proofs.Lent.{recomputed-keys, recomputed-one}
-use borrow.Author.Rules.{rules}
 use Rattle.checker.proofs.recompute_one.Goals as goal
 
 pub expand-q-requires-clause-keys_value : goal.expand-q-requires-clause-keys_value

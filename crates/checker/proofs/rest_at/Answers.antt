@@ -7,7 +7,6 @@ use Rattle.octets.specs.Xor.{◌⊕◌}
 use Rattle.octets.specs.Lists.{vec, tab}
 use Rattle.field.specs.Gf.{◌⊗◌}
 use Rattle.checker.specs.State.{rest_of}
-use borrow.Author.Rules.{rules}
 use Rattle.checker.proofs.rest_at.Goals as goal
 
 pub returns : goal.returns

@@ -1,10 +1,7 @@
 -- `checker::verify` meets its contract. Assumes nothing.
-use mathlib.Core.Path.{◌∙◌}
 use Rattle.octets.specs.Lists.{part}
 use Rattle.paper.specs.Challenge.{hidden_in}
 use Rattle.checker.proofs.Verdict.{verif-first, verif-second, verif-third}
-use borrow.Author.Tests.{not-true, not-false}
-use borrow.Author.Rules.{rules}
 use Rattle.checker.proofs.verify.Goals as goal
 
 pub returns-then-not-passes : goal.returns-then-not-passes

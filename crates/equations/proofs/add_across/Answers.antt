@@ -1,14 +1,9 @@
 -- `equations::add_across` meets its contract: before turn l the first l lanes are the new ones. Assumes nothing.
-use mathlib.Core.Path.{◌≡◌, refl}
-use Prim.Native.Nat.{◌-◌, ◌≤◌}
+use mathlib.Core.Path.{refl}
 use native.Mathlib.Omega.{arith}
-use lib.Bits.{bit_and}
-use lib.ListN.{length, length-set}
-use borrow.Author.Rules.{rules}
+use lib.ListN.{length-set}
 use Rattle.octets.specs.Xor.{◌⊕◌}
-use Rattle.octets.specs.Lists.{vec, view}
-use Rattle.equations.specs.Put.{Put}
-use Rattle.equations.proofs.Put.{put-start, put-add, put_all}
+use Rattle.equations.proofs.Put.{put-add, put_all}
 use Rattle.equations.proofs.add_across.Goals as goal
 
 pub loop-l-preserved : goal.loop-l-preserved

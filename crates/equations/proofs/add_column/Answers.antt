@@ -1,13 +1,8 @@
 -- `equations::add_column` meets its contract: before turn e the first e rows have their element. Assumes nothing.
-use mathlib.Core.Path.{◌≡◌, refl}
-use Prim.Native.Nat.{◌+◌, ◌*◌, ◌-◌, ◌≤◌}
+use mathlib.Core.Path.{refl}
 use native.Mathlib.Omega.{arith}
-use lib.ListN.{length, length-set}
-use borrow.Author.Rules.{rules}
-use Rattle.octets.specs.Xor.{◌⊕◌}
-use Rattle.octets.specs.Lists.{vec}
-use Rattle.equations.specs.Put.{Put}
-use Rattle.equations.proofs.Put.{put-start, put-add, put-end}
+use lib.ListN.{length-set}
+use Rattle.equations.proofs.Put.{put-add, put-end}
 use Rattle.equations.proofs.add_column.Goals as goal
 
 pub loop-e-preserved : goal.loop-e-preserved

@@ -1,11 +1,9 @@
 -- `equations::add_cross` meets its contract: before digit b the parts of the digits below it are added. Assumes nothing.
-use mathlib.Core.Path.{◌≡◌, refl}
+use mathlib.Core.Path.{◌≡◌}
 use Prim.Native.Nat.{◌-◌, ◌≤◌}
-use native.Mathlib.Omega.{arith}
-use borrow.Author.Rules.{rules}
 use Rattle.octets.specs.Lists.{vec}
-use Rattle.equations.proofs.Rows.{sofar, sofar-start}
-use Rattle.equations.proofs.Products.{powers, powers-start, powers-turn, across, across-turn, across-end}
+use Rattle.equations.proofs.Rows.{sofar}
+use Rattle.equations.proofs.Products.{powers, across}
 use Rattle.equations.proofs.add_cross.Given as goal
 
 abbrev pub invariant-loop-b : goal.invariant-loop-b

@@ -1,11 +1,9 @@
 -- `equations::add_product` meets its contract: before digit b the parts of the digits below it are added. Assumes nothing.
-use mathlib.Core.Path.{◌≡◌, refl}
-use Prim.Native.Nat.{◌-◌, ◌≤◌}
+use mathlib.Core.Path.{refl}
 use native.Mathlib.Omega.{arith}
 use borrow.Author.Rules.{rules}
-use Rattle.octets.specs.Lists.{vec}
-use Rattle.equations.proofs.Rows.{sofar, sofar-start}
-use Rattle.equations.proofs.Products.{powers, powers-start, powers-turn, under, under-turn, under-end}
+use Rattle.equations.proofs.Rows.{sofar-start}
+use Rattle.equations.proofs.Products.{powers-start, powers-turn, under-turn, under-end}
 use Rattle.equations.proofs.add_product.Goals as goal
 
 pub loop-b-init : goal.loop-b-init

@@ -1,14 +1,11 @@
 -- `equations::add_under` meets its contract: before turn l the first l lanes are the new ones. Assumes nothing.
-use mathlib.Core.Path.{◌≡◌, refl}
+use mathlib.Core.Path.{◌≡◌}
 use Prim.Native.Nat.{◌-◌, ◌≤◌}
-use native.Mathlib.Omega.{arith}
 use lib.Bits.{bit_and}
-use lib.ListN.{length, length-set}
-use borrow.Author.Rules.{rules}
+use lib.ListN.{length}
 use Rattle.octets.specs.Xor.{◌⊕◌}
 use Rattle.octets.specs.Lists.{vec, view}
 use Rattle.equations.specs.Put.{Put}
-use Rattle.equations.proofs.Put.{put-start, put-add, put_all}
 use Rattle.equations.proofs.add_under.Given as goal
 
 abbrev pub invariant-loop-l : goal.invariant-loop-l

@@ -1,14 +1,10 @@
 -- `equations::at_points` meets its contract: before turn j the value's part and the first j rows are added. Assumes nothing.
-use mathlib.Core.Path.{◌≡◌, sym, ap, ◌∙◌}
-use Prim.Native.Nat.{ℕ, ◌+◌, ◌-◌, ◌≤◌}
+use mathlib.Core.Path.{sym, ap, ◌∙◌}
+use Prim.Native.Nat.{ℕ, ◌+◌}
 use native.Mathlib.Omega.{arith}
-use borrow.Author.Rules.{rules}
-use Rattle.field.specs.Vec.{row_start}
 use Rattle.field.proofs.Loops.{row_zero, row-turn}
-use Rattle.equations.specs.Lanes.{Masks}
 use Rattle.equations.proofs.Flat.{row_room}
-use Rattle.equations.proofs.Rows.{sofar}
-use Rattle.equations.proofs.Evals.{of_value, of_row, eval-start, eval-turn, eval-end}
+use Rattle.equations.proofs.Evals.{of_value, eval-start, eval-turn, eval-end}
 use Rattle.equations.proofs.at_points.Goals as goal
 
 pub loop-j-init : goal.loop-j-init

@@ -1,11 +1,8 @@
 -- `equations::clear_points` meets its contract: before turn l the first l points are 0. Assumes nothing.
-use mathlib.Core.Path.{◌≡◌, refl}
-use Prim.Native.Nat.{◌+◌, ◌-◌, ◌≤◌}
+use mathlib.Core.Path.{refl}
 use native.Mathlib.Omega.{arith}
-use lib.ListN.{length, length-set}
-use borrow.Author.Rules.{rules}
-use Rattle.equations.specs.Put.{Put}
-use Rattle.equations.proofs.Put.{put-start, put-turn, put-end}
+use lib.ListN.{length-set}
+use Rattle.equations.proofs.Put.{put-turn}
 use Rattle.equations.proofs.clear_points.Goals as goal
 
 pub loop-l-preserved : goal.loop-l-preserved

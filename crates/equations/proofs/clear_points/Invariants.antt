@@ -1,11 +1,8 @@
 -- `equations::clear_points` meets its contract: before turn l the first l points are 0. Assumes nothing.
-use mathlib.Core.Path.{◌≡◌, refl}
+use mathlib.Core.Path.{◌≡◌}
 use Prim.Native.Nat.{◌+◌, ◌-◌, ◌≤◌}
-use native.Mathlib.Omega.{arith}
-use lib.ListN.{length, length-set}
-use borrow.Author.Rules.{rules}
+use lib.ListN.{length}
 use Rattle.equations.specs.Put.{Put}
-use Rattle.equations.proofs.Put.{put-start, put-turn, put-end}
 use Rattle.equations.proofs.clear_points.Given as goal
 
 abbrev pub invariant-loop-l : goal.invariant-loop-l

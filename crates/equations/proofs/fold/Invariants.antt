@@ -1,11 +1,8 @@
 -- `equations::fold` meets its contract: before digit b the digits above it are folded. Assumes nothing.
-use mathlib.Core.Path.{◌≡◌, refl}
+use mathlib.Core.Path.{◌≡◌}
 use Prim.Native.Nat.{◌≤◌}
-use native.Mathlib.Omega.{arith}
-use borrow.Author.Rules.{rules}
 use Rattle.octets.specs.Lists.{tab}
-use lib.ListN.{get_or-replicate}
-use Rattle.equations.proofs.Horner.{folded_from, fold_start, fold-turn, fold_end}
+use Rattle.equations.proofs.Horner.{folded_from}
 use Rattle.equations.proofs.fold.Given as goal
 
 abbrev pub invariant-loop-b : goal.invariant-loop-b

@@ -1,15 +1,11 @@
 -- `equations::fold_digit` meets its contract: before turn l the first l lanes are the new ones. Assumes nothing.
-use mathlib.Core.Path.{◌≡◌, ap, ◌∙◌}
+use mathlib.Core.Path.{◌≡◌}
 use Prim.Native.Nat.{◌+◌, ◌*◌, ◌-◌, ◌≤◌}
-use native.Mathlib.Omega.{arith}
-use lib.ListN.{length, length-set}
-use borrow.Author.Rules.{rules}
+use lib.ListN.{length}
 use Rattle.octets.specs.Xor.{◌⊕◌}
 use Rattle.octets.specs.Lists.{vec}
-use Rattle.octets.proofs.Xor.{xor-is-⊕}
 use Rattle.field.specs.Gf.{times_root}
 use Rattle.equations.specs.Put.{Put}
-use Rattle.equations.proofs.Put.{put-start, put-turn, put_all}
 use Rattle.equations.proofs.fold_digit.Given as goal
 
 abbrev pub invariant-loop-l : goal.invariant-loop-l

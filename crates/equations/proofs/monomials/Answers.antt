@@ -1,13 +1,10 @@
 -- `equations::monomials` meets its contract: before turn j the unknowns and the first j rows are written. Assumes nothing.
-use mathlib.Core.Path.{◌≡◌, sym, ap, ◌∙◌}
-use Prim.Native.Nat.{ℕ, ◌+◌, ◌-◌, ◌≤◌}
+use mathlib.Core.Path.{sym, ap, ◌∙◌}
+use Prim.Native.Nat.{ℕ, ◌+◌}
 use native.Mathlib.Omega.{arith}
-use lib.ListN.{length}
 use borrow.Author.Rules.{rules}
-use Rattle.octets.specs.Lists.{vec}
-use Rattle.field.specs.Vec.{row_start}
 use Rattle.field.proofs.Loops.{row_zero, row-turn}
-use Rattle.equations.proofs.Flat.{row_room, Filled, filled-start, filled-turn, filled-end}
+use Rattle.equations.proofs.Flat.{row_room, filled-start, filled-turn, filled-end}
 use Rattle.equations.proofs.monomials.Goals as goal
 
 pub loop-j-init : goal.loop-j-init

@@ -1,14 +1,10 @@
 -- `equations::on_lines` meets its contract: before turn j the first j rows are added. Assumes nothing.
-use mathlib.Core.Path.{◌≡◌, sym, ap, ◌∙◌}
-use Prim.Native.Nat.{ℕ, ◌+◌, ◌-◌, ◌≤◌}
-use native.Mathlib.Omega.{arith}
-use borrow.Author.Rules.{rules}
+use mathlib.Core.Path.{◌≡◌}
+use Prim.Native.Nat.{ℕ, ◌-◌, ◌≤◌}
 use Rattle.field.specs.Vec.{row_start}
-use Rattle.field.proofs.Loops.{row_zero, row-turn}
 use Rattle.equations.specs.Lanes.{Masks}
-use Rattle.equations.proofs.Flat.{row_room}
-use Rattle.equations.proofs.Rows.{sofar, sofar-zeros}
-use Rattle.equations.proofs.Evals.{of_row, of_cross, eval-turn, cross-turn, lines_end}
+use Rattle.equations.proofs.Rows.{sofar}
+use Rattle.equations.proofs.Evals.{of_row, of_cross}
 use Rattle.equations.proofs.on_lines.Given as goal
 
 abbrev pub invariant-loop-j : goal.invariant-loop-j

@@ -1,12 +1,8 @@
 -- `equations::put_lane` meets its contract: before turn k the first k vectors have their lane. Assumes nothing.
-use mathlib.Core.Path.{◌≡◌, refl}
-use Prim.Native.Nat.{◌+◌, ◌*◌, ◌-◌, ◌≤◌}
+use mathlib.Core.Path.{refl}
 use native.Mathlib.Omega.{arith}
-use lib.ListN.{length, length-set}
-use borrow.Author.Rules.{rules}
-use Rattle.octets.specs.Lists.{vec}
-use Rattle.equations.specs.Put.{Put}
-use Rattle.equations.proofs.Put.{put-start, put-turn, put-end}
+use lib.ListN.{length-set}
+use Rattle.equations.proofs.Put.{put-turn, put-end}
 use Rattle.equations.proofs.put_lane.Goals as goal
 
 pub loop-k-preserved : goal.loop-k-preserved

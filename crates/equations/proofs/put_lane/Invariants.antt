@@ -1,12 +1,9 @@
 -- `equations::put_lane` meets its contract: before turn k the first k vectors have their lane. Assumes nothing.
-use mathlib.Core.Path.{◌≡◌, refl}
+use mathlib.Core.Path.{◌≡◌}
 use Prim.Native.Nat.{◌+◌, ◌*◌, ◌-◌, ◌≤◌}
-use native.Mathlib.Omega.{arith}
-use lib.ListN.{length, length-set}
-use borrow.Author.Rules.{rules}
+use lib.ListN.{length}
 use Rattle.octets.specs.Lists.{vec}
 use Rattle.equations.specs.Put.{Put}
-use Rattle.equations.proofs.Put.{put-start, put-turn, put-end}
 use Rattle.equations.proofs.put_lane.Given as goal
 
 abbrev pub invariant-loop-k : goal.invariant-loop-k

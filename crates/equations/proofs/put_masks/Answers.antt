@@ -1,11 +1,9 @@
 -- `equations::put_masks` meets its contract: before turn l the first l masks are written. Assumes nothing.
-use mathlib.Core.Path.{◌≡◌, refl, ap}
-use Prim.Native.Nat.{ℕ, ◌+◌, ◌*◌, ◌-◌, ◌/◌, ◌%◌, ◌^◌, ◌≤◌}
+use mathlib.Core.Path.{◌≡◌, ap}
+use Prim.Native.Nat.{ℕ, ◌*◌, ◌/◌, ◌%◌, ◌^◌}
 use native.Mathlib.Omega.{arith}
-use lib.ListN.{length, length-set}
-use borrow.Author.Rules.{rules}
-use Rattle.equations.specs.Put.{Put}
-use Rattle.equations.proofs.Put.{put-start, put-turn, put-end}
+use lib.ListN.{length-set}
+use Rattle.equations.proofs.Put.{put-turn, put-end}
 use Rattle.equations.specs.Lanes.{lane, mask_of}
 use Rattle.equations.proofs.put_masks.Goals as goal
 

@@ -1,6 +1,5 @@
 -- `equations::put_solution` meets its contract: three writes, one after the other. Assumes nothing.
 use native.Mathlib.Omega.{arith}
-use borrow.Author.Rules.{rules}
 use Rattle.equations.proofs.Solution.{own_is}
 use Rattle.equations.proofs.put_solution.Goals as goal
 

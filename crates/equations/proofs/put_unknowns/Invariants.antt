@@ -1,12 +1,9 @@
 -- `equations::put_unknowns` meets its contract: before turn k the first k unknowns are written. Assumes nothing.
-use mathlib.Core.Path.{◌≡◌, refl}
+use mathlib.Core.Path.{◌≡◌}
 use Prim.Native.Nat.{◌+◌, ◌-◌, ◌≤◌}
-use native.Mathlib.Omega.{arith}
-use lib.ListN.{length, length-set}
-use borrow.Author.Rules.{rules}
+use lib.ListN.{length}
 use Rattle.octets.specs.Lists.{vec}
 use Rattle.equations.specs.Put.{Put}
-use Rattle.equations.proofs.Put.{put-start, put-turn, put-end}
 use Rattle.equations.proofs.put_unknowns.Given as goal
 
 abbrev pub invariant-loop-k : goal.invariant-loop-k

@@ -1,10 +1,8 @@
 -- `equations::row_value` meets its contract: before turn k the first k terms of the row are added. Assumes nothing.
-use mathlib.Core.Path.{◌≡◌, ◌∙◌}
-use Prim.Native.Nat.{suc, ◌-◌, ◌≤◌}
+use mathlib.Core.Path.{◌∙◌}
 use native.Mathlib.Omega.{arith}
-use borrow.Author.Rules.{rules}
 use Rattle.equations.proofs.Flat.{row_room}
-use Rattle.equations.proofs.Evals.{row_to, row_first, row_more, row_is}
+use Rattle.equations.proofs.Evals.{row_first, row_more, row_is}
 use Rattle.equations.proofs.row_value.Goals as goal
 
 pub loop-k-init : goal.loop-k-init

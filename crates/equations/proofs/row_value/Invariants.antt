@@ -1,10 +1,7 @@
 -- `equations::row_value` meets its contract: before turn k the first k terms of the row are added. Assumes nothing.
-use mathlib.Core.Path.{◌≡◌, ◌∙◌}
+use mathlib.Core.Path.{◌≡◌}
 use Prim.Native.Nat.{suc, ◌-◌, ◌≤◌}
-use native.Mathlib.Omega.{arith}
-use borrow.Author.Rules.{rules}
-use Rattle.equations.proofs.Flat.{row_room}
-use Rattle.equations.proofs.Evals.{row_to, row_first, row_more, row_is}
+use Rattle.equations.proofs.Evals.{row_to}
 use Rattle.equations.proofs.row_value.Given as goal
 
 abbrev pub invariant-loop-k : goal.invariant-loop-k

@@ -1,7 +1,6 @@
 -- `equations::scaled` meets its contract: a sum of one term, folded. Assumes nothing.
 use mathlib.Core.Path.{◌∙◌}
 use native.Mathlib.Omega.{arith}
-use borrow.Author.Rules.{rules}
 use Rattle.equations.proofs.Evals.{scaled-is}
 use Rattle.equations.proofs.scaled.Goals as goal
 

@@ -1,10 +1,8 @@
 -- `equations::spread` meets its contract: before turn k the first k vectors are spread. Assumes nothing.
-use mathlib.Core.Path.{◌≡◌, refl}
+use mathlib.Core.Path.{◌≡◌}
 use Prim.Native.Nat.{◌-◌, ◌≤◌}
-use native.Mathlib.Omega.{arith}
 use lib.ListN.{length}
-use borrow.Author.Rules.{rules}
-use Rattle.equations.proofs.Spreading.{Spreading, spreading-none, spreading-turn, spreading-end}
+use Rattle.equations.proofs.Spreading.{Spreading}
 use Rattle.equations.proofs.spread.Given as goal
 
 abbrev pub invariant-loop-k : goal.invariant-loop-k

@@ -1,11 +1,8 @@
 -- `equations::spread_one` meets its contract: before digit b the digits above it are spread. Assumes nothing.
-use mathlib.Core.Path.{◌≡◌, refl}
+use mathlib.Core.Path.{◌≡◌}
 use Prim.Native.Nat.{◌≤◌}
-use native.Mathlib.Omega.{arith}
 use lib.ListN.{length}
-use borrow.Author.Rules.{rules}
 use Rattle.equations.specs.Lanes.{Spread}
-use Rattle.equations.proofs.Spreading.{spread_none, spread-digit, spread-vector}
 use Rattle.equations.proofs.spread_one.Given as goal
 
 abbrev pub invariant-loop-b : goal.invariant-loop-b

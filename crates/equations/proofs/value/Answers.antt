@@ -1,7 +1,6 @@
 -- `equations::value` meets its contract: the flat sum is the nested one. Assumes nothing.
 use mathlib.Core.Path.{◌∙◌}
 use native.Mathlib.Omega.{arith}
-use borrow.Author.Rules.{rules}
 use Rattle.equations.proofs.Flat.{flat-value}
 use Rattle.equations.proofs.value.Goals as goal
 

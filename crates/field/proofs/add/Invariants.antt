@@ -1,12 +1,9 @@
 -- `field::add` meets its contract: before turn i the first i elements are the new ones. Assumes nothing.
-use mathlib.Core.Path.{◌≡◌, refl, sym}
+use mathlib.Core.Path.{◌≡◌}
 use Prim.Native.Nat.{◌-◌, ◌≤◌}
-use native.Mathlib.Omega.{arith}
-use lib.ListN.{length, length-set}
+use lib.ListN.{length}
 use Rattle.octets.specs.Xor.{xor_b}
-use Rattle.octets.proofs.Xor.{length-xor_b, vec-xor_b}
-use Rattle.octets.proofs.Write.{written, written_none, fill_end}
-use Rattle.octets.proofs.Write.{add_turn}
+use Rattle.octets.proofs.Write.{written}
 use Rattle.field.proofs.add.Given as goal
 
 abbrev pub invariant-loop-i : goal.invariant-loop-i

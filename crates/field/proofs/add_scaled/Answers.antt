@@ -1,13 +1,11 @@
 -- `field::add_scaled` meets its contract: before turn i the first i elements are the new ones. Assumes nothing.
-use mathlib.Core.Path.{◌≡◌, refl, sym, ap, ◌∙◌}
-use Prim.Native.Nat.{◌-◌, ◌≤◌}
+use mathlib.Core.Path.{refl, sym, ap, ◌∙◌}
 use native.Mathlib.Omega.{arith}
 use lib.ListN.{length, length-set}
-use borrow.Author.Rules.{rules}
-use Rattle.octets.specs.Lists.{vec, tab}
+use Rattle.octets.specs.Lists.{vec}
 use Rattle.octets.specs.Xor.{◌⊕◌}
 use Rattle.octets.proofs.Tab.{length-tab, vec-tab}
-use Rattle.octets.proofs.Write.{written, written_none, fill_end}
+use Rattle.octets.proofs.Write.{written_none, fill_end}
 use Rattle.field.specs.Gf.{◌⊗◌}
 use Rattle.octets.proofs.Write.{add_turn}
 use Rattle.field.proofs.add_scaled.Goals as goal

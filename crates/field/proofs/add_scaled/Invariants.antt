@@ -1,15 +1,11 @@
 -- `field::add_scaled` meets its contract: before turn i the first i elements are the new ones. Assumes nothing.
-use mathlib.Core.Path.{◌≡◌, refl, sym, ap, ◌∙◌}
+use mathlib.Core.Path.{◌≡◌}
 use Prim.Native.Nat.{◌-◌, ◌≤◌}
-use native.Mathlib.Omega.{arith}
-use lib.ListN.{length, length-set}
-use borrow.Author.Rules.{rules}
+use lib.ListN.{length}
 use Rattle.octets.specs.Lists.{vec, tab}
 use Rattle.octets.specs.Xor.{◌⊕◌}
-use Rattle.octets.proofs.Tab.{length-tab, vec-tab}
-use Rattle.octets.proofs.Write.{written, written_none, fill_end}
+use Rattle.octets.proofs.Write.{written}
 use Rattle.field.specs.Gf.{◌⊗◌}
-use Rattle.octets.proofs.Write.{add_turn}
 use Rattle.field.proofs.add_scaled.Given as goal
 
 abbrev pub invariant-loop-i : goal.invariant-loop-i

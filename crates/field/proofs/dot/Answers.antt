@@ -1,12 +1,6 @@
 -- `field::dot` meets its contract: before turn i, r is the sum of the first i products. Assumes nothing.
-use mathlib.Core.Path.{◌≡◌}
-use Prim.Native.Nat.{◌-◌, ◌≤◌}
 use native.Mathlib.Omega.{arith}
-use lib.ListN.{length}
-use borrow.Author.Rules.{rules}
-use Rattle.octets.specs.Lists.{vec}
-use Rattle.field.specs.Vec.{dot}
-use Rattle.field.proofs.Loops.{sum-start, sum-turn, sum-end}
+use Rattle.field.proofs.Loops.{sum-start, sum-turn}
 use Rattle.field.proofs.dot.Goals as goal
 
 pub loop-i-init : goal.loop-i-init

@@ -1,6 +1,5 @@
 -- `field::lift` meets its contract. Assumes nothing.
 use Rattle.field.proofs.Morphism.{lift-digits}
-use borrow.Author.Rules.{rules}
 use Rattle.field.proofs.lift.Goals as goal
 
 pub returns : goal.returns

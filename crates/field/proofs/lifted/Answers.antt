@@ -2,7 +2,6 @@
 use mathlib.Core.Path.{sym, ◌∙◌}
 use Rattle.field.specs.Vec.{half, lifted}
 use Rattle.field.proofs.Field.{lift-mod}
-use borrow.Author.Rules.{rules}
 use Rattle.field.proofs.lifted.Goals as goal
 
 pub returns : goal.returns

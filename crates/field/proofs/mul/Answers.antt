@@ -1,12 +1,8 @@
 -- `field::mul` meets its contract: `r` and what is left of the sum make the product.
 -- Assumes nothing.
-use mathlib.Core.Path.{◌≡◌}
-use Prim.Native.Nat.{◌-◌, ◌≤◌, ◌<◌}
+use Prim.Native.Nat.{◌<◌}
 use native.Mathlib.Omega.{arith}
-use borrow.Author.Rules.{rules}
-use Rattle.octets.specs.Xor.{◌⊕◌}
-use Rattle.field.specs.Gf.{shift_add, ◌⊗◌}
-use Rattle.field.proofs.Steps.{mul-turn, mask-turn, mask_lt, root-shift, root-shift-lt, mul-start, mul-end}
+use Rattle.field.proofs.Steps.{mul-turn, mask-turn, root-shift, root-shift-lt, mul-start, mul-end}
 use Rattle.field.proofs.mul.Goals as goal
 
 pub loop-i-init : goal.loop-i-init

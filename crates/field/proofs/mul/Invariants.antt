@@ -2,11 +2,8 @@
 -- Assumes nothing.
 use mathlib.Core.Path.{◌≡◌}
 use Prim.Native.Nat.{◌-◌, ◌≤◌, ◌<◌}
-use native.Mathlib.Omega.{arith}
-use borrow.Author.Rules.{rules}
 use Rattle.octets.specs.Xor.{◌⊕◌}
 use Rattle.field.specs.Gf.{shift_add, ◌⊗◌}
-use Rattle.field.proofs.Steps.{mul-turn, mask-turn, mask_lt, root-shift, root-shift-lt, mul-start, mul-end}
 use Rattle.field.proofs.mul.Given as goal
 
 abbrev pub invariant-loop-i : goal.invariant-loop-i

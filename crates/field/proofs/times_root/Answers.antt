@@ -5,7 +5,6 @@ use native.Mathlib.Omega.{arith}
 use lib.Bits.{bit_xor}
 use Rattle.octets.specs.Xor.{◌⊕◌}
 use Rattle.field.specs.Gf.{times_root}
-use borrow.Author.Rules.{rules}
 use Rattle.field.proofs.times_root.Goals as goal
 
 pub returns : goal.returns

@@ -1,9 +1,6 @@
 -- `folding::add_tape` meets its contract. Assumes nothing.
-use Prim.Native.Nat.{◌+◌, ◌*◌, ◌-◌, ◌≤◌}
 use native.Mathlib.Omega.{arith}
-use lib.ListN.{length-set}
-use mathlib.Core.Path.{refl}
-use Rattle.folding.proofs.Tape.{Adding, adding-start, adding-turn, adding-end}
+use Rattle.folding.proofs.Tape.{adding-turn}
 use Rattle.folding.proofs.add_tape.Goals as goal
 
 pub loop-b-preserved : goal.loop-b-preserved

@@ -1,13 +1,6 @@
 -- `folding::all_u` meets its contract: before turn i the first i elements are there. Assumes nothing.
-use mathlib.Core.Path.{◌≡◌, refl}
-use Prim.Native.Nat.{ℕ, ◌-◌, ◌<◌, ◌≤◌}
 use native.Mathlib.Omega.{arith}
-use borrow.Author.Rules.{rules}
-use lib.ListN.{length, length-set}
-use Rattle.octets.specs.Lists.{vec}
-use Rattle.octets.proofs.Write.{set_more}
 use Rattle.octets.proofs.Tab.{is-tab}
-use Rattle.folding.specs.Rows.{u_fold}
 use Rattle.folding.proofs.all_u.Goals as goal
 
 pub returns : goal.returns

@@ -1,12 +1,8 @@
 -- `folding::all_u` meets its contract: before turn i the first i elements are there. Assumes nothing.
-use mathlib.Core.Path.{◌≡◌, refl}
+use mathlib.Core.Path.{◌≡◌}
 use Prim.Native.Nat.{ℕ, ◌-◌, ◌<◌, ◌≤◌}
-use native.Mathlib.Omega.{arith}
-use borrow.Author.Rules.{rules}
-use lib.ListN.{length, length-set}
+use lib.ListN.{length}
 use Rattle.octets.specs.Lists.{vec}
-use Rattle.octets.proofs.Write.{set_more}
-use Rattle.octets.proofs.Tab.{is-tab}
 use Rattle.folding.specs.Rows.{u_fold}
 use Rattle.folding.proofs.all_u.Given as goal
 

@@ -1,7 +1,6 @@
 -- `folding::corrected` meets its contract. Assumes nothing.
 use Rattle.octets.specs.Lists.{part}
 use Rattle.folding.proofs.Values.{corrected-write}
-use borrow.Author.Rules.{rules}
 use Rattle.folding.proofs.corrected.Goals as goal
 
 pub returns : goal.returns

@@ -5,7 +5,6 @@ use Prim.Native.Nat.{ℕ}
 use Rattle.octets.specs.Lists.{part}
 use Rattle.octets.specs.Xor.{xor_b}
 use Rattle.folding.specs.Rows.{sent}
-use borrow.Author.Rules.{rules}
 use Rattle.folding.proofs.correction.Goals as goal
 
 pub returns : goal.returns

@@ -1,13 +1,10 @@
 -- `folding::folded_u` meets its contract. Assumes nothing.
 use mathlib.Core.Path.{◌≡◌, ap}
-use Prim.Native.Nat.{◌+◌, ◌*◌, ◌-◌, ◌^◌, ◌<◌, ◌≤◌}
+use Prim.Native.Nat.{◌+◌, ◌*◌, ◌-◌}
 use native.Mathlib.Omega.{arith}
-use borrow.Author.Rules.{rules}
 use Rattle.octets.specs.Lists.{vec}
-use Rattle.octets.specs.Xor.{◌⊕◌}
-use Rattle.field.specs.Gf.{◌⊗◌}
 use Rattle.folding.specs.Rows.{u_fold}
-use Rattle.folding.proofs.Horner.{based, horner-start, horner-turn, horner-byte, horner-end}
+use Rattle.folding.proofs.Horner.{horner-start, horner-turn, horner-byte, horner-end}
 use Rattle.folding.proofs.folded_u.Goals as goal
 
 pub loop-j-init : goal.loop-j-init

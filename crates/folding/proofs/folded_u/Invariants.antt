@@ -1,13 +1,11 @@
 -- `folding::folded_u` meets its contract. Assumes nothing.
-use mathlib.Core.Path.{◌≡◌, ap}
-use Prim.Native.Nat.{◌+◌, ◌*◌, ◌-◌, ◌^◌, ◌<◌, ◌≤◌}
-use native.Mathlib.Omega.{arith}
-use borrow.Author.Rules.{rules}
+use mathlib.Core.Path.{◌≡◌}
+use Prim.Native.Nat.{◌+◌, ◌*◌, ◌^◌, ◌<◌, ◌≤◌}
 use Rattle.octets.specs.Lists.{vec}
 use Rattle.octets.specs.Xor.{◌⊕◌}
 use Rattle.field.specs.Gf.{◌⊗◌}
 use Rattle.folding.specs.Rows.{u_fold}
-use Rattle.folding.proofs.Horner.{based, horner-start, horner-turn, horner-byte, horner-end}
+use Rattle.folding.proofs.Horner.{based}
 use Rattle.folding.proofs.folded_u.Given as goal
 
 abbrev pub invariant-loop-j : goal.invariant-loop-j

@@ -1,15 +1,12 @@
 -- `folding::folded_x` meets its contract. Assumes nothing.
-use mathlib.Core.Path.{◌≡◌, ap₂, ◌∙◌}
-use Prim.Native.Nat.{ℕ, ◌+◌, ◌*◌, ◌-◌, ◌^◌, ◌<◌, ◌≤◌}
-use native.Mathlib.Omega.{arith}
-use borrow.Author.Rules.{rules}
+use mathlib.Core.Path.{◌≡◌}
+use Prim.Native.Nat.{◌+◌, ◌*◌, ◌^◌, ◌<◌, ◌≤◌}
 use Rattle.octets.specs.Lists.{part}
 use Rattle.octets.specs.Xor.{◌⊕◌}
 use Rattle.field.specs.Gf.{◌⊗◌}
 use Rattle.field.specs.Vec.{lifted}
 use Rattle.folding.specs.Rows.{x_fold}
-use Rattle.folding.proofs.Horner.{based, horner-start, horner-turn, horner-byte, horner-end}
-use Rattle.folding.proofs.Values.{lifted-byte}
+use Rattle.folding.proofs.Horner.{based}
 use Rattle.folding.proofs.folded_x.Given as goal
 
 abbrev pub invariant-loop-j : goal.invariant-loop-j

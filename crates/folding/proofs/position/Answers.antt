@@ -1,9 +1,6 @@
 -- `folding::position` meets its contract. Assumes nothing.
-use mathlib.Core.Path.{◌≡◌}
-use Prim.Native.Nat.{◌+◌, ◌-◌, ◌≤◌}
 use native.Mathlib.Omega.{arith}
-use Rattle.algebra.specs.Folding.{position}
-use Rattle.folding.proofs.Lowest.{lowest, lowest_start, lowest-found, lowest-turn, lowest-end}
+use Rattle.folding.proofs.Lowest.{lowest_start, lowest-found, lowest-turn, lowest-end}
 use Rattle.folding.proofs.position.Goals as goal
 
 pub loop-p-init : goal.loop-p-init

@@ -1,9 +1,8 @@
 -- `folding::position` meets its contract. Assumes nothing.
 use mathlib.Core.Path.{◌≡◌}
 use Prim.Native.Nat.{◌+◌, ◌-◌, ◌≤◌}
-use native.Mathlib.Omega.{arith}
 use Rattle.algebra.specs.Folding.{position}
-use Rattle.folding.proofs.Lowest.{lowest, lowest_start, lowest-found, lowest-turn, lowest-end}
+use Rattle.folding.proofs.Lowest.{lowest}
 use Rattle.folding.proofs.position.Given as goal
 
 abbrev pub invariant-loop-p : goal.invariant-loop-p

@@ -1,7 +1,6 @@
 -- `folding::sum_u` meets its contract. Assumes nothing.
 use Rattle.octets.specs.Lists.{part}
 use Rattle.folding.specs.Rows.{u_acc}
-use borrow.Author.Rules.{rules}
 use Rattle.folding.proofs.sum_u.Goals as goal
 
 pub returns : goal.returns

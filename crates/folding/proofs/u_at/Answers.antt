@@ -1,10 +1,7 @@
 -- `folding::u_at` meets its contract: before turn i the first i elements are there. Assumes nothing.
-use mathlib.Core.Path.{◌≡◌, refl, ap₂, ◌∙◌}
-use Prim.Native.Nat.{ℕ, ◌-◌, ◌<◌, ◌≤◌}
+use mathlib.Core.Path.{◌≡◌, ap₂, ◌∙◌}
 use native.Mathlib.Omega.{arith}
-use borrow.Author.Rules.{rules}
-use lib.ListN.{length, length-set}
-use Rattle.octets.specs.Lists.{vec}
+use lib.ListN.{length-set}
 use Rattle.octets.specs.Xor.{◌⊕◌}
 use Rattle.octets.proofs.Xor.{xor-is-⊕}
 use Rattle.octets.proofs.Write.{set_more}

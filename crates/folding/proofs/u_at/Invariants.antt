@@ -1,14 +1,8 @@
 -- `folding::u_at` meets its contract: before turn i the first i elements are there. Assumes nothing.
-use mathlib.Core.Path.{◌≡◌, refl, ap₂, ◌∙◌}
+use mathlib.Core.Path.{◌≡◌}
 use Prim.Native.Nat.{ℕ, ◌-◌, ◌<◌, ◌≤◌}
-use native.Mathlib.Omega.{arith}
-use borrow.Author.Rules.{rules}
-use lib.ListN.{length, length-set}
+use lib.ListN.{length}
 use Rattle.octets.specs.Lists.{vec}
-use Rattle.octets.specs.Xor.{◌⊕◌}
-use Rattle.octets.proofs.Xor.{xor-is-⊕}
-use Rattle.octets.proofs.Write.{set_more}
-use Rattle.octets.proofs.Tab.{is-tab}
 use Rattle.folding.specs.Rows.{u_at}
 use Rattle.folding.proofs.u_at.Given as goal
 

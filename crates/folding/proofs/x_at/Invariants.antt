@@ -1,17 +1,8 @@
 -- `folding::x_at` meets its contract: before turn k the first k elements are there. Assumes nothing.
-use mathlib.Core.Path.{◌≡◌, refl, ap, ap₂, ◌∙◌}
+use mathlib.Core.Path.{◌≡◌}
 use Prim.Native.Nat.{ℕ, ◌-◌, ◌<◌, ◌≤◌}
-use native.Mathlib.Omega.{arith}
-use borrow.Author.Rules.{rules}
-use mathlib.Core.List.{List}
-use lib.ListN.{length, length-set}
+use lib.ListN.{length}
 use Rattle.octets.specs.Lists.{vec}
-use Rattle.octets.specs.Xor.{◌⊕◌}
-use Rattle.octets.proofs.Xor.{xor-is-⊕}
-use Rattle.octets.proofs.Write.{set_more}
-use Rattle.octets.proofs.Tab.{is-tab}
-use Rattle.field.specs.Gf.{◌⊗◌}
-use Rattle.field.specs.Vec.{lifted}
 use Rattle.folding.specs.Rows.{corrected, x_at}
 use Rattle.folding.proofs.x_at.Given as goal
 

@@ -1,5 +1,4 @@
 -- `ggm::expand` meets its contract: what its two calls of itself write are the two halves. The measure is the depth. Assumes nothing.
-use borrow.Author.Rules.{rules}
 use mathlib.Core.Path.{◌≡◌, sym, ◌∙◌}
 use Prim.Native.Nat.{◌/◌, ◌≤◌}
 use native.Mathlib.Omega.{arith}
@@ -11,7 +10,6 @@ use Rattle.tree.proofs.Powers.{pow-half, two-zero}
 use Rattle.tree.proofs.Depth.{leaves-zero, leaves-join}
 use Rattle.tree.proofs.Halves.{rest-length, both}
 use Rattle.ggm.specs.Ggm.{derive_by}
-use Prim.Native.Nat.{ℕ, ◌<◌}
 use Rattle.ggm.proofs.+expand.Goals as goal
 
 pub expand-requires : goal.expand-requires

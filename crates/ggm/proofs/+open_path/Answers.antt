@@ -1,5 +1,4 @@
 -- `ggm::open_path` meets its contract: a sibling behind the path of the half that hides the leaf. The measure is the depth. Assumes nothing.
-use borrow.Author.Rules.{rules}
 use mathlib.Core.Path.{◌≡◌, sym, ◌∙◌}
 use Prim.Native.Nat.{◌+◌, ◌-◌, ◌*◌}
 use native.Mathlib.Omega.{arith}
@@ -11,7 +10,6 @@ use Rattle.tree.proofs.Depth.{path-zero, path-join-left, path-join-right}
 use Rattle.ggm.specs.Ggm.{derive_by}
 use Rattle.octets.proofs.Laid.{length-nil, drop-place}
 use Rattle.ggm.proofs.HiddenLeaf.{leaf-zero, leaf-join-left, leaf-join-right}
-use Prim.Native.Nat.{ℕ, ◌<◌}
 use Rattle.ggm.proofs.+open_path.Goals as goal
 
 pub returns-then-d-eq0-clause-siblings : goal.returns-then-d-eq0-clause-siblings

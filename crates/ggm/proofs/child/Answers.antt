@@ -1,6 +1,5 @@
 -- `ggm::child` meets its contract. Assumes nothing.
 use Rattle.ggm.specs.Ggm.{derive_by}
-use borrow.Author.Rules.{rules}
 use Rattle.ggm.proofs.child.Goals as goal
 
 pub returns : goal.returns

@@ -7,7 +7,6 @@ use Rattle.aes.specs.Words.{block_of}
 use Rattle.tree.proofs.Depth.{tree-join}
 use Rattle.tree.proofs.Halves.{both}
 use Rattle.ggm.specs.Ggm.{derive_by}
-use borrow.Author.Rules.{rules}
 use Rattle.ggm.proofs.expand_tree.Goals as goal
 
 pub slice_bounds-expand-end-2 : goal.slice_bounds-expand-end-2

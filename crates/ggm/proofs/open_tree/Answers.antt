@@ -9,7 +9,6 @@ use Rattle.tree.proofs.Depth.{tree-path-left, tree-path-right}
 use Rattle.ggm.specs.Ggm.{derive_by}
 use Rattle.octets.proofs.Laid.{drop-place}
 use Rattle.ggm.proofs.HiddenLeaf.{tree-leaf-left, tree-leaf-right}
-use borrow.Author.Rules.{rules}
 use Rattle.ggm.proofs.open_tree.Goals as goal
 
 pub open_path-requires-clause-keys_len : goal.open_path-requires-clause-keys_len

@@ -5,7 +5,6 @@ use Prim.Native.Nat.{ℕ}
 use Rattle.shake.specs.Shake.{shake128}
 use Rattle.paper.specs.Symmetric.{xof}
 use Rattle.paper.specs.Keys.{drawn}
-use borrow.Author.Rules.{rules}
 use Rattle.keygen.proofs.draw.Goals as goal
 
 pub returns : goal.returns

@@ -5,7 +5,6 @@ use native.Mathlib.Omega.{arith}
 use lib.ListN.{length, length-take, length-drop}
 use Rattle.octets.specs.Lists.{part}
 use Rattle.keygen.proofs.Values.{both-parts}
-use borrow.Author.Rules.{rules}
 use Rattle.keygen.proofs.put_public.Goals as goal
 
 pub returns : goal.returns

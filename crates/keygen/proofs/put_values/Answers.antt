@@ -1,14 +1,10 @@
 -- `keygen::put_values` meets its contract: before turn i the first i values stand in y. Assumes nothing.
-use mathlib.Core.Path.{◌≡◌, refl, sym, ap, ◌∙◌}
-use Prim.Native.Nat.{◌≤◌, ◌-◌}
+use mathlib.Core.Path.{refl, ◌∙◌}
 use native.Mathlib.Omega.{arith}
 use borrow.Author.Rules.{rules}
-use lib.ListN.{length, length-set, length-take, length-drop}
+use lib.ListN.{length-set}
 use Rattle.octets.specs.Lists.{part}
-use Rattle.octets.proofs.Write.{written, written_none, fill-turn, fill_end}
-use Rattle.field.specs.Vec.{lifted}
-use Rattle.equations.specs.Put.{Monomials}
-use Rattle.paper.specs.Keys.{values_at}
+use Rattle.octets.proofs.Write.{written_none, fill-turn, fill_end}
 use Rattle.keygen.proofs.Values.{length-values_at, value-is}
 use Rattle.keygen.proofs.put_values.Goals as goal
 

@@ -7,7 +7,6 @@ use Rattle.octets.proofs.Part.{length_part}
 use Rattle.octets.proofs.Place.{place-write}
 use Rattle.lines.specs.Standing.{com_by, leaf_at}
 use Rattle.lines.proofs.Leaf.{length-com_by}
-use borrow.Author.Rules.{rules}
 use Rattle.lines.proofs.commit_leaf.Goals as goal
 
 pub returns : goal.returns

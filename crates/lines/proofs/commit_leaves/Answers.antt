@@ -1,10 +1,8 @@
 -- `lines::commit_leaves` meets its contract. Assumes nothing.
-use mathlib.Core.Path.{◌≡◌, ◌∙◌}
-use Prim.Native.Nat.{◌-◌, ◌≤◌}
+use mathlib.Core.Path.{◌∙◌}
 use native.Mathlib.Omega.{arith}
-use lib.ListN.{length, length-set}
-use borrow.Author.Rules.{rules}
-use Rattle.lines.proofs.Stand.{Standing, standing-start, standing-turn, standing-end, stands-start}
+use lib.ListN.{length-set}
+use Rattle.lines.proofs.Stand.{standing-start, standing-turn, standing-end, stands-start}
 use Rattle.lines.proofs.commit_leaves.Goals as goal
 
 pub loop-i-init : goal.loop-i-init

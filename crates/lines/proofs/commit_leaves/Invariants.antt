@@ -1,10 +1,8 @@
 -- `lines::commit_leaves` meets its contract. Assumes nothing.
-use mathlib.Core.Path.{◌≡◌, ◌∙◌}
+use mathlib.Core.Path.{◌≡◌}
 use Prim.Native.Nat.{◌-◌, ◌≤◌}
-use native.Mathlib.Omega.{arith}
-use lib.ListN.{length, length-set}
-use borrow.Author.Rules.{rules}
-use Rattle.lines.proofs.Stand.{Standing, standing-start, standing-turn, standing-end, stands-start}
+use lib.ListN.{length}
+use Rattle.lines.proofs.Stand.{Standing}
 use Rattle.lines.proofs.commit_leaves.Given as goal
 
 abbrev pub invariant-loop-i : goal.invariant-loop-i

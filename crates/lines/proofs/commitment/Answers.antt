@@ -1,7 +1,6 @@
 -- `lines::commitment` meets its contract. Assumes nothing.
 use mathlib.Core.Path.{refl}
 use Rattle.lines.proofs.Leaf.{com-made}
-use borrow.Author.Rules.{rules}
 use Rattle.lines.proofs.commitment.Goals as goal
 
 pub returns : goal.returns

@@ -2,7 +2,6 @@
 use native.Mathlib.Omega.{arith}
 use Rattle.algebra.proofs.Points.{position-lt}
 use Rattle.folding.proofs.Folds.{folds-turn}
-use borrow.Author.Rules.{rules}
 use Rattle.lines.proofs.fold_leaf.Goals as goal
 
 pub add_tape-requires : goal.add_tape-requires

@@ -1,12 +1,7 @@
 -- `lines::fold_leaves` meets its contract. Assumes nothing.
-use mathlib.Core.Path.{◌≡◌, refl, subst, ◌∙◌}
-use Prim.Native.Nat.{ℕ, ◌-◌, ◌≤◌}
+use mathlib.Core.Path.{refl}
 use native.Mathlib.Omega.{arith}
-use lib.ListN.{length}
-use borrow.Author.Rules.{rules}
-use Rattle.folding.specs.Rows.{Folds}
 use Rattle.folding.proofs.Folds.{folds-start}
-use Rattle.lines.specs.Standing.{raw_by}
 use Rattle.lines.proofs.fold_leaves.Goals as goal
 
 pub loop-i-init : goal.loop-i-init

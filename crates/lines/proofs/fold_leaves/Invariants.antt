@@ -1,11 +1,8 @@
 -- `lines::fold_leaves` meets its contract. Assumes nothing.
-use mathlib.Core.Path.{◌≡◌, refl, subst, ◌∙◌}
-use Prim.Native.Nat.{ℕ, ◌-◌, ◌≤◌}
-use native.Mathlib.Omega.{arith}
+use mathlib.Core.Path.{◌≡◌}
+use Prim.Native.Nat.{◌-◌, ◌≤◌}
 use lib.ListN.{length}
-use borrow.Author.Rules.{rules}
 use Rattle.folding.specs.Rows.{Folds}
-use Rattle.folding.proofs.Folds.{folds-start}
 use Rattle.lines.specs.Standing.{raw_by}
 use Rattle.lines.proofs.fold_leaves.Given as goal
 

@@ -4,7 +4,6 @@ use native.Mathlib.Omega.{arith}
 use lib.ListN.{length-take}
 use Rattle.aes.specs.Words.{block_of}
 use Rattle.lines.proofs.Stand.{stands-grown}
-use borrow.Author.Rules.{rules}
 use Rattle.lines.proofs.grow.Goals as goal
 
 pub slice_bounds-expand_tree-end-2 : goal.slice_bounds-expand_tree-end-2

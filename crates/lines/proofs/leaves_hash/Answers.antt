@@ -1,6 +1,5 @@
 -- `lines::leaves_hash` meets its contract. Assumes nothing.
 use Rattle.octets.specs.Lists.{part}
-use borrow.Author.Rules.{rules}
 use Rattle.lines.proofs.leaves_hash.Goals as goal
 
 pub returns : goal.returns

@@ -3,7 +3,6 @@ use mathlib.Core.Path.{◌≡◌, refl}
 use Prim.Native.Nat.{◌+◌, ◌-◌, ◌*◌}
 use native.Mathlib.Omega.{arith}
 use Rattle.octets.proofs.Place.{place-write}
-use borrow.Author.Rules.{rules}
 use Rattle.lines.proofs.put_hidden.Goals as goal
 
 pub returns : goal.returns

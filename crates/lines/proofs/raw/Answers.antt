@@ -6,7 +6,6 @@ use lib.ListN.{get_or-replicate}
 use Rattle.octets.specs.Lists.{vec}
 use Rattle.folding.proofs.Folds.{hide-same, hide-other}
 use Rattle.lines.specs.Standing.{tape_by, leaf_at}
-use borrow.Author.Rules.{rules}
 use Rattle.lines.proofs.raw.Goals as goal
 
 pub returns-then-i-hidden : goal.returns-then-i-hidden

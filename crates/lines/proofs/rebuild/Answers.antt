@@ -4,7 +4,6 @@ use native.Mathlib.Omega.{arith}
 use lib.ListN.{length-take}
 use Rattle.lines.specs.Standing.{rebuilt}
 use Rattle.lines.proofs.Stand.{stands-front, stands-hidden}
-use borrow.Author.Rules.{rules}
 use Rattle.lines.proofs.rebuild.Goals as goal
 
 pub slice_bounds-rebuild_tree-end-2 : goal.slice_bounds-rebuild_tree-end-2

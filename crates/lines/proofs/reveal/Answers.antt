@@ -2,7 +2,6 @@
 use Rattle.aes.specs.Words.{block_of}
 use Rattle.aes.proofs.Blocks.{length-block_of}
 use Rattle.lines.proofs.Signer.{revealed}
-use borrow.Author.Rules.{rules}
 use Rattle.lines.proofs.reveal.Goals as goal
 
 pub returns : goal.returns

@@ -1,7 +1,6 @@
 -- `lines::tape` meets its contract. Assumes nothing.
 use mathlib.Core.Path.{refl}
 use Rattle.lines.proofs.Leaf.{tape-made}
-use borrow.Author.Rules.{rules}
 use Rattle.lines.proofs.tape.Goals as goal
 
 pub returns : goal.returns

@@ -1,9 +1,8 @@
 -- `octets::copy` meets its contract: before turn i the first i bytes are those of src. Assumes nothing.
-use mathlib.Core.Path.{◌≡◌, refl}
+use mathlib.Core.Path.{refl}
 use native.Mathlib.Omega.{arith}
-use Prim.Native.Nat.{◌≤◌, ◌-◌}
-use lib.ListN.{length, length-set}
-use Rattle.octets.proofs.Write.{written, written_none, fill-turn, fill_end}
+use lib.ListN.{length-set}
+use Rattle.octets.proofs.Write.{written_none, fill-turn, fill_end}
 use Rattle.octets.proofs.copy.Goals as goal
 
 pub loop-i-init : goal.loop-i-init

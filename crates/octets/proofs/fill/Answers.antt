@@ -1,9 +1,8 @@
 -- `octets::fill` meets its contract: before turn i the first i bytes are v. Assumes nothing.
-use mathlib.Core.Path.{◌≡◌, refl, sym}
+use mathlib.Core.Path.{refl, sym}
 use native.Mathlib.Omega.{arith}
-use Prim.Native.Nat.{◌≤◌, ◌-◌}
-use lib.ListN.{length, replicate, length-set, length-replicate, get_or-replicate}
-use Rattle.octets.proofs.Write.{written, written_none, fill-turn, fill_end}
+use lib.ListN.{length, length-set, length-replicate, get_or-replicate}
+use Rattle.octets.proofs.Write.{written_none, fill-turn, fill_end}
 use Rattle.octets.proofs.fill.Goals as goal
 
 pub loop-i-init : goal.loop-i-init

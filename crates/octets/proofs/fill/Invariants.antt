@@ -1,9 +1,8 @@
 -- `octets::fill` meets its contract: before turn i the first i bytes are v. Assumes nothing.
-use mathlib.Core.Path.{◌≡◌, refl, sym}
-use native.Mathlib.Omega.{arith}
+use mathlib.Core.Path.{◌≡◌}
 use Prim.Native.Nat.{◌≤◌, ◌-◌}
-use lib.ListN.{length, replicate, length-set, length-replicate, get_or-replicate}
-use Rattle.octets.proofs.Write.{written, written_none, fill-turn, fill_end}
+use lib.ListN.{length, replicate}
+use Rattle.octets.proofs.Write.{written}
 use Rattle.octets.proofs.fill.Given as goal
 
 abbrev pub invariant-loop-i : goal.invariant-loop-i

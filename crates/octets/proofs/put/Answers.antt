@@ -4,7 +4,6 @@ use native.Mathlib.Omega.{arith}
 use Prim.Native.Nat.{◌+◌, ◌-◌}
 use lib.ListN.{length}
 use Rattle.octets.proofs.Place.{place-write}
-use borrow.Author.Rules.{rules}
 use Rattle.octets.proofs.put.Goals as goal
 
 pub returns : goal.returns

@@ -1,9 +1,7 @@
 -- `octets::same` meets its contract: d gathers the digits in which the two differ. Assumes nothing.
-use mathlib.Core.Path.{◌≡◌, sym}
+use mathlib.Core.Path.{sym}
 use native.Mathlib.Omega.{arith}
-use Prim.Native.Nat.{◌≤◌, ◌-◌}
-use lib.ListN.{length}
-use Rattle.octets.proofs.Alike.{Gathered, gathered-start, gathered-turn, gathered-end, alike-lengths}
+use Rattle.octets.proofs.Alike.{gathered-turn, gathered-end, alike-lengths}
 use Rattle.octets.proofs.same.Goals as goal
 
 pub returns-then-a-b : goal.returns-then-a-b

@@ -1,9 +1,8 @@
 -- `octets::same` meets its contract: d gathers the digits in which the two differ. Assumes nothing.
-use mathlib.Core.Path.{◌≡◌, sym}
-use native.Mathlib.Omega.{arith}
+use mathlib.Core.Path.{◌≡◌}
 use Prim.Native.Nat.{◌≤◌, ◌-◌}
 use lib.ListN.{length}
-use Rattle.octets.proofs.Alike.{Gathered, gathered-start, gathered-turn, gathered-end, alike-lengths}
+use Rattle.octets.proofs.Alike.{Gathered}
 use Rattle.octets.proofs.same.Given as goal
 
 abbrev pub invariant-loop-i : goal.invariant-loop-i

@@ -2,7 +2,6 @@
 use mathlib.Core.Path.{ap₂, ◌∙◌}
 use Rattle.octets.specs.Xor.{xor_b}
 use Rattle.seeds.specs.Expanded.{derive_with}
-use borrow.Author.Rules.{rules}
 use Rattle.seeds.proofs.derive.Goals as goal
 
 pub returns : goal.returns

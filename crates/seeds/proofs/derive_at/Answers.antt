@@ -6,7 +6,6 @@ use lib.ListN.{take, drop}
 use Rattle.octets.specs.Lists.{part}
 use Rattle.aes.specs.Words.{block_of}
 use Rattle.seeds.specs.Expanded.{derive_with, key_at}
-use borrow.Author.Rules.{rules}
 use Rattle.seeds.proofs.derive_at.Goals as goal
 
 pub returns : goal.returns

@@ -3,7 +3,6 @@ use mathlib.Core.Path.{ap, ◌∙◌}
 use mathlib.Core.List.{◌∷◌}
 use Prim.Native.Nat.{ℕ}
 use Rattle.seeds.proofs.Hash.{hash-flat}
-use borrow.Author.Rules.{rules}
 use Rattle.seeds.proofs.hash_after.Goals as goal
 
 pub returns : goal.returns

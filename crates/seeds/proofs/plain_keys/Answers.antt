@@ -1,16 +1,13 @@
 -- `seeds::plain_keys` meets its contract: before turn i the first i keys stand. Assumes nothing.
-use mathlib.Core.Path.{◌≡◌, refl, ap, ◌∙◌}
+use mathlib.Core.Path.{refl, ap, ◌∙◌}
 use mathlib.Core.List.{List}
-use Prim.Native.Nat.{ℕ, ◌-◌, ◌*◌, ◌≤◌}
+use Prim.Native.Nat.{ℕ}
 use native.Mathlib.Omega.{arith}
-use lib.ListN.{length}
-use Rattle.octets.specs.Lists.{part, joined}
 use Rattle.aes.specs.Cipher.{expand_key}
 use Rattle.aes.proofs.Bounds.{length-expand_key}
 use Rattle.paper.specs.Symmetric.{tweak_salt, expand}
 use Rattle.seeds.specs.Expanded.{plain_keys}
 use Rattle.seeds.proofs.Keys.{plain_key, keys_none, keys-turn, keys-all}
-use borrow.Author.Rules.{rules}
 use Rattle.seeds.proofs.plain_keys.Goals as goal
 
 pub loop-i-init : goal.loop-i-init

@@ -7,7 +7,6 @@ use Rattle.aes.specs.Cipher.{expand_key}
 use Rattle.aes.specs.Words.{block_of}
 use Rattle.aes.proofs.Bounds.{length-expand_key}
 use Rattle.paper.specs.Symmetric.{tweak_salt}
-use borrow.Author.Rules.{rules}
 use Rattle.seeds.proofs.put_key.Goals as goal
 
 pub returns : goal.returns

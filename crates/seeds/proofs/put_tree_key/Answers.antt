@@ -1,8 +1,5 @@
 -- `seeds::put_tree_key` meets its contract: its tables are those of the definitions. Assumes nothing.
-use native.Mathlib.Omega.{arith}
 use Rattle.seeds.specs.Expanded.{tree_purposes, tree_layers, tree_key}
-use Rattle.seeds.proofs.Keys.{purpose-small, layer-small}
-use borrow.Author.Rules.{rules}
 use Rattle.seeds.proofs.put_tree_key.Goals as goal
 
 pub returns : goal.returns

@@ -7,7 +7,6 @@ use Rattle.octets.specs.Lists.{bytes_of}
 use Rattle.aes.specs.Words.{block_of}
 use Rattle.paper.specs.Symmetric.{tweak_salt}
 use Rattle.seeds.proofs.Blocks.{block-tweak}
-use borrow.Author.Rules.{rules}
 use Rattle.seeds.proofs.tweak.Goals as goal
 
 pub returns : goal.returns

@@ -1,13 +1,10 @@
 -- `seeds::write_tree_keys` meets its contract: before turn k the first k keys stand. Assumes nothing.
-use mathlib.Core.Path.{◌≡◌, refl, ◌∙◌}
+use mathlib.Core.Path.{◌≡◌}
 use Prim.Native.Nat.{◌-◌, ◌*◌, ◌≤◌}
-use native.Mathlib.Omega.{arith}
 use lib.ListN.{length}
 use Rattle.octets.specs.Lists.{part, joined}
 use Rattle.aes.specs.Words.{block_of}
-use Rattle.seeds.specs.Expanded.{tree_key, tree_keys}
-use Rattle.seeds.proofs.Keys.{length-tree_key, keys_none, keys-turn, keys-all}
-use borrow.Author.Rules.{rules}
+use Rattle.seeds.specs.Expanded.{tree_key}
 use Rattle.seeds.proofs.write_tree_keys.Given as goal
 
 abbrev pub invariant-loop-k : goal.invariant-loop-k

@@ -1,13 +1,12 @@
 -- `signer::alphas` meets its contract. Assumes nothing.
-use mathlib.Core.Path.{sym, ◌∙◌}
+use mathlib.Core.Path.{◌∙◌}
 use native.Mathlib.Omega.{arith}
 use Rattle.octets.specs.Lists.{part}
 use Rattle.octets.proofs.Part.{length_part}
 use Rattle.paper.specs.Keys.{public_of, solution_of}
 use Rattle.workspace.specs.Map.{at_vectors}
-use Rattle.workspace.proofs.Lent.{length-after, length-slice, lent}
+use Rattle.workspace.proofs.Lent.{length-after, lent}
 use Rattle.signer.proofs.ResultLines.{length_both, keys-stay, all-prepared}
-use borrow.Author.Rules.{rules}
 use Rattle.signer.proofs.alphas.Goals as goal
 
 pub results-requires-clause-pk_len : goal.results-requires-clause-pk_len

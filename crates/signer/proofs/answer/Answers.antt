@@ -1,9 +1,7 @@
 -- `signer::answer` meets its contract. Assumes nothing.
-use mathlib.Core.Path.{sym, ◌∙◌}
 use Rattle.octets.specs.Lists.{part}
 use Rattle.paper.specs.Keys.{public_of}
 use Rattle.signer.proofs.Signing.{found-answers, spent-answers}
-use borrow.Author.Rules.{rules}
 use Rattle.signer.proofs.answer.Goals as goal
 
 pub returns-in-Found : goal.returns-in-Found

@@ -3,12 +3,10 @@ use mathlib.Core.Path.{subst, ◌∙◌}
 use mathlib.Core.List.{List}
 use Prim.Native.Nat.{ℕ}
 use native.Mathlib.Omega.{arith}
-use lib.ListN.{length-take}
 use Rattle.octets.proofs.Part.{part-all}
 use Rattle.signer.specs.State.{Committed}
 use Rattle.workspace.proofs.Lent.{length-after, lent-front}
 use Rattle.signer.proofs.Committing.{keys-back, keys-end, committed-start}
-use borrow.Author.Rules.{rules}
 use Rattle.signer.proofs.commit.Goals as goal
 
 pub put_roots-requires-clause-work_len : goal.put_roots-requires-clause-work_len

@@ -1,11 +1,8 @@
 -- `signer::commit_all` meets its contract: before turn e, e repetitions are committed to. Assumes nothing.
-use mathlib.Core.Path.{◌≡◌, ◌∙◌, subst}
 use mathlib.Core.List.{List}
 use Prim.Native.Nat.{ℕ, ◌-◌, ◌≤◌}
-use native.Mathlib.Omega.{arith}
 use Rattle.aes.specs.Words.{block_of}
 use Rattle.signer.specs.State.{Within, Committed}
-use Rattle.signer.proofs.Within.{within-refl, within-trans}
 use Rattle.signer.proofs.commit_all.Given as goal
 
 abbrev pub invariant-loop-e : goal.invariant-loop-e

@@ -2,9 +2,8 @@
 use mathlib.Core.Path.{◌∙◌}
 use native.Mathlib.Omega.{arith}
 use Rattle.workspace.specs.Map.{at_vectors, at_tree}
-use Rattle.workspace.proofs.Lent.{length-after, length-slice, lent}
-use Rattle.signer.proofs.Committing.{length_both, one-within, one-committed}
-use borrow.Author.Rules.{rules}
+use Rattle.workspace.proofs.Lent.{length-after, lent}
+use Rattle.signer.proofs.Committing.{one-within, one-committed}
 use Rattle.signer.proofs.commit_one.Goals as goal
 
 pub returns-clause-keys : goal.returns-clause-keys

@@ -1,8 +1,6 @@
 -- `signer::prepare` meets its contract. Assumes nothing.
-use mathlib.Core.Path.{◌∙◌}
 use Rattle.octets.specs.Lists.{part}
 use Rattle.paper.specs.Keys.{solution_of}
-use borrow.Author.Rules.{rules}
 use Rattle.signer.proofs.prepare.Goals as goal
 
 pub returns : goal.returns

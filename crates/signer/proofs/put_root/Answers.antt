@@ -3,13 +3,11 @@ use mathlib.Core.Path.{ap, ◌∙◌}
 use mathlib.Core.List.{List}
 use Prim.Native.Nat.{ℕ, ◌+◌, ◌*◌}
 use native.Mathlib.Omega.{arith}
-use lib.ListN.{length-take}
 use Rattle.octets.specs.Lists.{part}
 use Rattle.octets.specs.Place.{place}
 use Rattle.aes.specs.Words.{block_of}
 use Rattle.aes.proofs.Blocks.{length-block_of}
 use Rattle.signer.proofs.Roots.{rseed-block}
-use borrow.Author.Rules.{rules}
 use Rattle.signer.proofs.put_root.Goals as goal
 
 pub plain_block-r-requires-clause-keys_value : goal.plain_block-r-requires-clause-keys_value

@@ -1,10 +1,8 @@
 -- `signer::put_roots` meets its contract: before turn e the first e root seeds stand. Assumes nothing.
-use mathlib.Core.Path.{◌≡◌, ap, ◌∙◌}
-use Prim.Native.Nat.{ℕ, ◌-◌, ◌≤◌}
+use mathlib.Core.Path.{ap, ◌∙◌}
 use native.Mathlib.Omega.{arith}
 use lib.ListN.{length}
 use Rattle.octets.specs.Lists.{part, joined}
-use Rattle.octets.specs.Place.{place}
 use Rattle.octets.proofs.Place.{length-place}
 use Rattle.octets.proofs.Frame.{part-before}
 use Rattle.aes.specs.Words.{block_of}

@@ -2,14 +2,11 @@
 use mathlib.Core.Path.{ap, ◌∙◌}
 use Prim.Native.Nat.{ℕ}
 use native.Mathlib.Omega.{arith}
-use lib.ListN.{length-take}
 use Rattle.octets.specs.Lists.{part}
-use Rattle.octets.proofs.Part.{length_part}
 use Rattle.paper.specs.Keys.{mseed_eq_of}
 use Rattle.workspace.specs.Map.{at_vectors, at_alpha0, at_alpha1}
-use Rattle.workspace.proofs.Lent.{length-after, length-slice, slice_at, lent}
+use Rattle.workspace.proofs.Lent.{length-after, slice_at, lent}
 use Rattle.signer.proofs.Columns.{one-within, one-adds}
-use borrow.Author.Rules.{rules}
 use Rattle.signer.proofs.result_one.Goals as goal
 
 pub expand-q-requires-clause-keys_value : goal.expand-q-requires-clause-keys_value

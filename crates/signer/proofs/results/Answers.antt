@@ -1,10 +1,8 @@
 -- `signer::results` meets its contract: before turn i, i equations are added. Assumes nothing.
 use mathlib.Core.Path.{◌≡◌, ◌∙◌}
-use Prim.Native.Nat.{◌-◌, ◌≤◌}
 use native.Mathlib.Omega.{arith}
-use Rattle.signer.specs.State.{Within}
-use Rattle.signer.proofs.Within.{within-refl, within-trans, within-before}
-use Rattle.signer.proofs.Columns.{Sums, sums-start, sums-turn, sums-end}
+use Rattle.signer.proofs.Within.{within-trans, within-before}
+use Rattle.signer.proofs.Columns.{sums-turn, sums-end}
 use Rattle.signer.proofs.results.Goals as goal
 
 pub result_one-d-requires-clause-pk_len : goal.result_one-d-requires-clause-pk_len

@@ -1,10 +1,7 @@
 -- `signer::results` meets its contract: before turn i, i equations are added. Assumes nothing.
-use mathlib.Core.Path.{◌≡◌, ◌∙◌}
 use Prim.Native.Nat.{◌-◌, ◌≤◌}
-use native.Mathlib.Omega.{arith}
 use Rattle.signer.specs.State.{Within}
-use Rattle.signer.proofs.Within.{within-refl, within-trans, within-before}
-use Rattle.signer.proofs.Columns.{Sums, sums-start, sums-turn, sums-end}
+use Rattle.signer.proofs.Columns.{Sums}
 use Rattle.signer.proofs.results.Given as goal
 
 abbrev pub invariant-loop-i : goal.invariant-loop-i

@@ -1,8 +1,5 @@
 -- `signer::sign` meets its contract. Assumes nothing.
-use mathlib.Core.Path.{◌∙◌}
-use Rattle.signer.proofs.Signing.{signed-unsolved, signed-answer}
-use borrow.Author.Tests.{not-true, not-false}
-use borrow.Author.Rules.{rules}
+use Rattle.signer.proofs.Signing.{signed-answer}
 use Rattle.signer.proofs.sign.Goals as goal
 
 pub returns : goal.returns

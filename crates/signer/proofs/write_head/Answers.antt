@@ -2,14 +2,10 @@
 use mathlib.Core.Path.{ap, ◌∙◌}
 use mathlib.Core.List.{List, ◌++◌}
 use Prim.Native.Nat.{ℕ}
-use native.Mathlib.Omega.{arith}
-use lib.ListN.{length}
 use Rattle.octets.specs.Place.{place}
-use Rattle.octets.proofs.Place.{length-place}
 use Rattle.workspace.specs.Map.{at_alpha1}
-use Rattle.workspace.proofs.Lent.{length-slice, slice_at}
+use Rattle.workspace.proofs.Lent.{slice_at}
 use Rattle.signer.proofs.Openings.{head-written}
-use borrow.Author.Rules.{rules}
 use Rattle.signer.proofs.write_head.Goals as goal
 
 pub returns : goal.returns

@@ -5,7 +5,6 @@ use native.Mathlib.Omega.{arith}
 use Rattle.workspace.specs.Map.{at_sent}
 use Rattle.workspace.proofs.Lent.{slice_is, lent}
 use Rattle.signer.proofs.Openings.{opening-written}
-use borrow.Author.Rules.{rules}
 use Rattle.signer.proofs.write_opening.Goals as goal
 
 pub returns : goal.returns

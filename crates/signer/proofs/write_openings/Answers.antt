@@ -1,12 +1,8 @@
 -- `signer::write_openings` meets its contract: before turn e, e openings are written. Assumes nothing.
-use mathlib.Core.Path.{◌≡◌, refl, ap, ◌∙◌}
-use mathlib.Core.List.{List}
-use Prim.Native.Nat.{ℕ, ◌-◌, ◌≤◌}
+use mathlib.Core.Path.{refl, ap, ◌∙◌}
 use native.Mathlib.Omega.{arith}
-use lib.ListN.{length}
-use Rattle.aes.specs.Words.{block_of}
 use Rattle.paper.specs.Challenge.{hidden_in}
-use Rattle.signer.specs.Written.{Openable, opening_at, openings}
+use Rattle.signer.specs.Written.{opening_at}
 use Rattle.signer.proofs.Openings.{openings-start, openings-turn}
 use Rattle.signer.proofs.write_openings.Goals as goal
 

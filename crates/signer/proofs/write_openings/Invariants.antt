@@ -1,13 +1,11 @@
 -- `signer::write_openings` meets its contract: before turn e, e openings are written. Assumes nothing.
-use mathlib.Core.Path.{◌≡◌, refl, ap, ◌∙◌}
+use mathlib.Core.Path.{◌≡◌}
 use mathlib.Core.List.{List}
 use Prim.Native.Nat.{ℕ, ◌-◌, ◌≤◌}
-use native.Mathlib.Omega.{arith}
 use lib.ListN.{length}
 use Rattle.aes.specs.Words.{block_of}
 use Rattle.paper.specs.Challenge.{hidden_in}
-use Rattle.signer.specs.Written.{Openable, opening_at, openings}
-use Rattle.signer.proofs.Openings.{openings-start, openings-turn}
+use Rattle.signer.specs.Written.{Openable, openings}
 use Rattle.signer.proofs.write_openings.Given as goal
 
 abbrev pub invariant-loop-e : goal.invariant-loop-e

@@ -1,16 +1,14 @@
 -- `signer::write_signature` meets its contract. Assumes nothing.
-use mathlib.Core.Path.{◌≡◌, refl, sym, subst, ◌∙◌}
+use mathlib.Core.Path.{refl, sym, subst, ◌∙◌}
 use mathlib.Core.List.{List}
 use Prim.Native.Nat.{ℕ}
 use native.Mathlib.Omega.{arith}
-use lib.ListN.{length}
 use Rattle.octets.specs.Lists.{part, bytes_of}
 use Rattle.octets.proofs.Part.{length_part, part-all, length-bytes_of}
 use Rattle.paper.specs.Keys.{solution_of}
 use Rattle.signer.specs.Written.{Openable}
-use Rattle.workspace.proofs.Lent.{length-after, lent}
+use Rattle.workspace.proofs.Lent.{lent}
 use Rattle.signer.proofs.Signing.{signature-written}
-use borrow.Author.Rules.{rules}
 use Rattle.signer.proofs.write_signature.Goals as goal
 
 pub returns : goal.returns

@@ -1,6 +1,5 @@
 -- `transcript::fiat_shamir` meets its contract. Assumes nothing.
 use Rattle.transcript.proofs.Inputs.{transcript-flat}
-use borrow.Author.Rules.{rules}
 use Rattle.transcript.proofs.fiat_shamir.Goals as goal
 
 pub returns : goal.returns

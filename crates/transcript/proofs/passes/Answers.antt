@@ -1,8 +1,6 @@
 -- `transcript::passes` meets its contract. Assumes nothing.
 use mathlib.Core.Path.{refl}
-use native.Mathlib.Omega.{arith}
 use Rattle.paper.specs.Challenge.{passes}
-use borrow.Author.Rules.{rules}
 use Rattle.transcript.proofs.passes.Goals as goal
 
 pub returns : goal.returns

@@ -1,11 +1,9 @@
 -- `transcript::put_hash` meets its contract. Assumes nothing.
 use mathlib.Core.Path.{refl, ap, ◌∙◌}
 use native.Mathlib.Omega.{arith}
-use lib.ListN.{length-set}
 use mathlib.Core.List.{◌∷◌}
 use Prim.Native.Nat.{ℕ}
 use Rattle.transcript.proofs.Inputs.{front-two}
-use borrow.Author.Rules.{rules}
 use Rattle.transcript.proofs.put_hash.Goals as goal
 
 pub returns : goal.returns

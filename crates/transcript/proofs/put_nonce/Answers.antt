@@ -1,7 +1,6 @@
 -- `transcript::put_nonce` meets its contract. Assumes nothing.
 use mathlib.Core.Path.{◌∙◌}
 use Rattle.octets.proofs.Laid.{set-four, bytes_of-four}
-use borrow.Author.Rules.{rules}
 use Rattle.transcript.proofs.put_nonce.Goals as goal
 
 pub returns : goal.returns

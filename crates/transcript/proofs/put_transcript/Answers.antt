@@ -2,10 +2,7 @@
 use mathlib.Core.Path.{ap, ◌∙◌}
 use mathlib.Core.List.{◌∷◌, ◌++◌}
 use Prim.Native.Nat.{ℕ}
-use native.Mathlib.Omega.{arith}
-use lib.ListN.{length-set}
 use Rattle.transcript.proofs.Inputs.{Written, transcript-input}
-use borrow.Author.Rules.{rules}
 use Rattle.transcript.proofs.put_transcript.Goals as goal
 
 pub returns : goal.returns

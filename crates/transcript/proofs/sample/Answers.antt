@@ -1,7 +1,6 @@
 -- `transcript::sample` meets its contract. Assumes nothing.
 use mathlib.Core.Path.{◌∙◌}
 use Rattle.transcript.proofs.Inputs.{challenge-flat}
-use borrow.Author.Rules.{rules}
 use Rattle.transcript.proofs.sample.Goals as goal
 
 pub returns : goal.returns

@@ -5,7 +5,6 @@ use Rattle.octets.specs.Lists.{bytes_of}
 use Rattle.octets.proofs.Part.{length-bytes_of}
 use Rattle.octets.proofs.Place.{place-write}
 use Rattle.paper.specs.Challenge.{passes}
-use borrow.Author.Rules.{rules}
 use Rattle.transcript.proofs.test.Goals as goal
 
 pub returns : goal.returns

@@ -2,14 +2,13 @@
 use mathlib.Core.Path.{◌≡◌, ap, ◌∙◌}
 use mathlib.Core.List.{[], ◌∷◌}
 use native.Mathlib.Omega.{arith}
-use lib.ListN.{set, length-set}
+use lib.ListN.{set}
 use Rattle.octets.specs.Lists.{part}
 use Rattle.octets.specs.Place.{place}
 use Rattle.paper.specs.Symmetric.{selector, for_alphas}
 use Rattle.seeds.proofs.Hash.{hash-flat}
 use Rattle.octets.proofs.Laid.{set-place}
 use Rattle.octets.proofs.Laid.{part-headed}
-use borrow.Author.Rules.{rules}
 use Rattle.workspace.proofs.second_commitment.Goals as goal
 
 pub returns-clause-hash : goal.returns-clause-hash

@@ -5,7 +5,6 @@ use Prim.Native.Nat.{ℕ}
 use Rattle.octets.specs.Lists.{zero16}
 use Rattle.paper.specs.Symmetric.{prg}
 use Rattle.paper.specs.Keys.{rows}
-use borrow.Author.Rules.{rules}
 use Rattle.equations.proofs.expansion.expand.Goals as goal
 
 pub returns : goal.returns

@@ -1,18 +1,10 @@
 -- `expansion::fill` meets its contract: before turn i the first i blocks stand in q. Assumes nothing.
-use mathlib.Core.Path.{◌≡◌, refl, sym, ap, ◌∙◌}
-use native.Mathlib.Omega.{arith}
+use mathlib.Core.Path.{◌≡◌}
 use Prim.Native.Nat.{◌≤◌, ◌-◌, ◌*◌}
-use lib.ListN.{length, length-replicate}
+use lib.ListN.{length}
 use Rattle.octets.specs.Lists.{part, joined, zero16}
-use Rattle.octets.proofs.Frame.{part_none}
 use Rattle.aes.specs.Words.{block_of}
 use Rattle.paper.specs.Symmetric.{prg_block}
-use Rattle.equations.proofs.Blocks.{blocks-turn, blocks_end, first_word}
-use borrow.Author.Rules.{rules}
-use Rattle.octets.specs.Lists.{bytes_of}
-use Rattle.octets.proofs.Part.{length-bytes_of}
-use Rattle.octets.proofs.Place.{length-place}
-use Rattle.aes.proofs.Blocks.{length-block_of}
 use Rattle.equations.proofs.expansion.fill.Given as goal
 
 abbrev pub invariant-loop-i : goal.invariant-loop-i

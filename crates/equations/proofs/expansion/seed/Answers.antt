@@ -1,7 +1,6 @@
 -- `expansion::seed` meets its contract. Assumes nothing.
-use mathlib.Core.Path.{◌≡◌, sym, ap, ap₂, ◌∙◌}
+use mathlib.Core.Path.{ap, ap₂, ◌∙◌}
 use mathlib.Core.List.{◌∷◌, ◌++◌}
-use Prim.Native.Nat.{suc}
 use native.Mathlib.Omega.{arith}
 use lib.ListN.{length}
 use Rattle.octets.specs.Lists.{bytes_of}
@@ -10,8 +9,7 @@ use Rattle.shake.proofs.Shake.{length-shake128}
 use Rattle.seeds.proofs.Hash.{xof-flat}
 use Rattle.paper.specs.Symmetric.{for_equations}
 use Rattle.paper.specs.Keys.{seed_eq}
-use Rattle.equations.proofs.Blocks.{length-input, seed-input}
-use borrow.Author.Rules.{rules}
+use Rattle.equations.proofs.Blocks.{seed-input}
 use Rattle.equations.proofs.expansion.seed.Goals as goal
 
 pub returns : goal.returns

@@ -1,6 +1,5 @@
 -- `mqom::fields::piece` meets its contract: the part where the length is right, else the empty one. Assumes nothing.
 use native.Mathlib.Nat.{add-sub_cancel_left}
-use borrow.Author.Rules.{rules}
 use borrow.Author.Tests.{eq-eqb, ne_eqb}
 use Rattle.octets.specs.Lists.{part}
 use Rattle.mqom.specs.Fields.{field_of}

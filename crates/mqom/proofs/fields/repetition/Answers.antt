@@ -1,8 +1,7 @@
 -- `mqom::fields::repetition` meets its contract: a part of the field's part, or past the 17th none. Assumes nothing.
 use mathlib.Core.Path.{◌∙◌, sym}
-use native.Mathlib.Omega.{arith}
 use borrow.Author.Rules.{rules}
-use Rattle.mqom.proofs.Parts.{repetition-ends, repetition-at, repetition-past}
+use Rattle.mqom.proofs.Parts.{repetition-at, repetition-past}
 use Rattle.mqom.proofs.fields.repetition.Goals as goal
 
 pub returns-then-e-lt17 : goal.returns-then-e-lt17
