@@ -9,9 +9,9 @@ OUT = "target/bench"
 CC = os.environ.get("CC", "gcc")
 
 
-def told(*command):
+def told(*command, folder=None):
     """What a command prints; one that fails ends the run."""
-    run = subprocess.run(command, capture_output=True, text=True)
+    run = subprocess.run(command, cwd=folder, capture_output=True, text=True)
     if run.returncode != 0:
         sys.exit(f"bench/run: {' '.join(command)}: status {run.returncode}\n{run.stdout}{run.stderr}")
     return run.stdout
@@ -24,7 +24,7 @@ def archive(crate):
 def build(program, crate, sources, libraries):
     """The crate proved and written as an archive, and the program in C linked with it."""
     os.makedirs(OUT, exist_ok=True)
-    told("rt", "lib", crate)
+    told("rt", "lib", folder=f"crates/{crate}")
     flags = ["-O3", "-std=gnu11", "-Wall", "-Wextra", "-Werror"]
     told(CC, *flags, "-o", f"{OUT}/{program}", *sources, archive(crate), *libraries, "-lpthread", "-Wl,-z,now")
     told(f"{OUT}/{program}", "check")

@@ -102,9 +102,13 @@ with tempfile.TemporaryDirectory() as room:
         for name in inputs:
             for what, other in (("missing", "missing"), ("a directory", "folder"), ("an empty name", ""), ("a long name", "n" * 5000)):
                 refused(program, 1, f"{name} is {what}", words_of(program, {name: other}))
+            content = read(here(name))
+            no_text = os.fsdecode(b"no \xff text")
+            write(here(no_text), content)
+            refused(program, 1, f"{name} has a name that is no text", words_of(program, {name: no_text}))
+            os.remove(here(no_text))
             if name == "message":
                 continue
-            content = read(here(name))
             wrong = 7 if name == "cell" else 1
             for text, changed in (("a byte short", content[:-1]), ("a byte long", content + b"0"), ("empty", b""), ("long", content * 100)):
                 write(here("other"), changed)
@@ -135,7 +139,7 @@ with tempfile.TemporaryDirectory() as room:
     for program, names in OUTPUTS.items():
         for name in names:
             for what, other in (("a directory", "folder"), ("in no folder", "nowhere/file"), ("an empty name", ""), ("a long name", "n" * 300),
-                                ("a very long name", "n" * 5000)):
+                                ("a very long name", "n" * 5000), ("a name that is no text", os.fsdecode(b"no \xff text"))):
                 refused(program, 9, f"{name} is {what}", words_of(program, {name: other}))
             refused(program, 9, f"no room for {name}", words_of(program), largest=40)
     refused("make_key", 9, "room for the public key alone", words_of("make_key"), largest=70)

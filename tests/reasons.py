@@ -13,16 +13,15 @@ from tally import finish, tell
 
 # what is said where an edit breaks a proof's words before any fact
 SHAPE = ["has no field", "is not in scope", "that can be named from here", "expected type `goal.", "was not admitted", "was not determined"]
-SAID = 160
 
 
 def refusal(told):
-    """The name of what is refused first, and what is printed of it."""
+    """The name of what is refused first, whether the name is cut off, and what is printed of it."""
     if m := re.match(r"\S+: error: `([^`]+)`: (.*)", told):
-        return m.group(1), m.group(2)
-    if m := re.match(r"note: \S+:\d+:\d+: (.*) \(`([^`]+)(`\)(;.*)?)?$", told):
-        return m.group(2), m.group(1)
-    return "", told
+        return m.group(1), False, m.group(2)
+    if m := re.match(r"note: \S+:\d+:\d+: (.*) \(`([^`]+)(`\)(.*))?$", told):
+        return m.group(2), m.group(3) is None, m.group(1) + (m.group(4) or "")
+    return "", False, told
 
 
 logged = {}
@@ -41,8 +40,8 @@ for edit in sorted(glob.glob("crates/*/must-fail/*.edit")):
         tell(False, f"{edit}: {sys.argv[1]} has no refusal of it")
         continue
     name, words = facts[0]
-    refused, said = refusal(told)
-    whole = refused == name or len(told) >= SAID and refused and name.startswith(refused)
+    refused, is_cut, said = refusal(told)
+    named = refused == name or is_cut and name.startswith(refused)
     shape = [s for s in SHAPE if s in said]
-    tell(whole and words in said and not shape, f"{edit}: refused first: {refused}: {said}")
+    tell(named and words in said and not shape, f"{edit}: refused first: {refused}: {said}")
 finish()

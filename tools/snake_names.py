@@ -18,6 +18,10 @@ HUMP = re.compile(r"([a-z0-9₀-₉])([A-Z])")
 def turned(name):
     parts = name.split("-")
     for i, p in enumerate(parts):
+        # the library's word, which port.py turned where it stands alone
+        if p == "getD":
+            parts[i] = "get_or"
+            continue
         if p[:1].islower() and HUMP.search(p):
             parts[i] = HUMP.sub(lambda m: m.group(1) + "_" + m.group(2), p).lower() if p.isascii() else HUMP.sub(lambda m: m.group(1) + "_" + m.group(2).lower(), p)
     return "-".join(parts)

@@ -11,8 +11,8 @@ use Rattle.tree.specs.Tree.{leaves_of, tree_of, left_of, right_of}
 use Rattle.tree.proofs.Lengths.{length-leaves}
 
 -- an element of the second of two lists
-get_d-right : (a b : List (List ℕ)) (n i : ℕ) → length a ≡ n → n ≤ i → get_or (a ++ b) i [] ≡ get_or b (i - n) []
-get_d-right a b n i h l =
+get_or-right : (a b : List (List ℕ)) (n i : ℕ) → length a ≡ n → n ≤ i → get_or (a ++ b) i [] ≡ get_or b (i - n) []
+get_or-right a b n i h l =
     ap (λ (k : ℕ). get_or (a ++ b) k []) there ∙ get_or-append-add a b (i - n) []
   where
     there : i ≡ length a + (i - n)
@@ -41,7 +41,7 @@ module _ (f : ℕ → List ℕ → List ℕ) where
   leaf-join-right (suc d) j i n s l r x h en le el er ex =
       let same : n ≡ 2 ^ d = rw sub-one at en in
       rw sub-one at ex ∙ ap (λ (y : List ℕ). get_or (leaves_of f d (j + 1) y) (i - n) []) (er ∙ ap (λ (y : List ℕ). xor_b y s) el)
-      ∙ sym (get_d-right (leaves_of f d (j + 1) (left_of f j s)) (leaves_of f d (j + 1) (right_of f j s)) n i (length-leaves f d (j + 1) (left_of f j s) ∙ sym same) le)
+      ∙ sym (get_or-right (leaves_of f d (j + 1) (left_of f j s)) (leaves_of f d (j + 1) (right_of f j s)) n i (length-leaves f d (j + 1) (left_of f j s) ∙ sym same) le)
 
   pub tree-leaf-left : (d i n : ℕ) (r δ x : List ℕ) → n ≡ 2 ^ d → i < n → x ≡ get_or (leaves_of f d 1 r) i [] → x ≡ get_or (tree_of f d r δ) i []
   unfolding tree_of
@@ -51,4 +51,4 @@ module _ (f : ℕ → List ℕ → List ℕ) where
   unfolding tree_of
   tree-leaf-right d i n r δ o x en le eo ex =
       ex ∙ ap (λ (s : List ℕ). get_or (leaves_of f d 1 s) (i - n) []) eo
-      ∙ sym (get_d-right (leaves_of f d 1 r) (leaves_of f d 1 (xor_b r δ)) n i (length-leaves f d 1 r ∙ sym en) le)
+      ∙ sym (get_or-right (leaves_of f d 1 r) (leaves_of f d 1 (xor_b r δ)) n i (length-leaves f d 1 r ∙ sym en) le)

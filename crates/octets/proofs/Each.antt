@@ -65,11 +65,11 @@ unfolding Each flat
 bytes-flat [] p = unfold Bytes in tt
 bytes-flat (s ∷ a) p = bytes-append s (flat a) p.0 (bytes-flat a p.1)
 
-pub bytes-get_d : (a : List (List ℕ)) (k : ℕ) → Each Bytes a → Bytes (get_or a k [])
+pub bytes-get_or : (a : List (List ℕ)) (k : ℕ) → Each Bytes a → Bytes (get_or a k [])
 unfolding Each
-bytes-get_d [] k p = unfold Bytes in tt
-bytes-get_d (s ∷ a) zero p = p.0
-bytes-get_d (s ∷ a) (suc k) p = bytes-get_d a k p.1
+bytes-get_or [] k p = unfold Bytes in tt
+bytes-get_or (s ∷ a) zero p = p.0
+bytes-get_or (s ∷ a) (suc k) p = bytes-get_or a k p.1
 
 -- ---- a seed is replaced in the second of two lists
 

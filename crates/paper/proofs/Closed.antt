@@ -5,7 +5,7 @@ use Rattle.octets.proofs.Xor.{⊕-lt}
 use Rattle.octets.specs.Lists.{zero16, Bytes}
 use Rattle.algebra.specs.Line.{Batch, none, rows, batch}
 use Rattle.field.proofs.Sum.{sum_lt, dot-lt}
-use Rattle.octets.proofs.Each.{bytes-flat, bytes-get_d}
+use Rattle.octets.proofs.Each.{bytes-flat, bytes-get_or}
 use Rattle.tree.proofs.Bounds.{bytes-tree, bytes-tree-path}
 use Rattle.tree.specs.Tree.{KeepsBytes}
 use Rattle.paper.specs.Symmetric.{derive, commit_first, for_key, for_alphas, for_commitment}
@@ -29,7 +29,7 @@ module _ (mseed salt x : List ℕ) (pm : Bytes mseed) (ps : Bytes salt) (px : By
 
   bytes-lseed : (e k : ℕ) → Bytes (lseed mseed salt x e k)
   unfolding lseed
-  bytes-lseed e k = bytes-get_d _ k (bytes-tree (derive_in salt e) (keeps e) 7 _ _ (bytes-rseed e) (bytes-part 0 16 x px))
+  bytes-lseed e k = bytes-get_or _ k (bytes-tree (derive_in salt e) (keeps e) 7 _ _ (bytes-rseed e) (bytes-part 0 16 x px))
 
   bytes-lscom : (e k : ℕ) → Bytes (lscom mseed salt x e k)
   unfolding lscom leaf_com

@@ -2,8 +2,11 @@
 -- Assumes nothing.
 use mathlib.Core.Path.{sym, ◌∙◌}
 use native.Mathlib.Omega.{arith}
-use Rattle.transcript.proofs.Nonces.{passing, searching-test, searching-turn, search-found, search-spent}
+use Rattle.transcript.proofs.Nonces.{passing, searching-start, searching-test, searching-turn, search-found, search-spent}
 use Rattle.transcript.proofs.first_nonce.Goals as goal
+
+pub loop-nonce-init : goal.loop-nonce-init
+loop-nonce-init c = searching-start c.args.hash.now c.args.tries _ c.put_hash.auto.p c.put_hash.ensures
 
 pub loop-nonce-preserved : goal.loop-nonce-preserved
 loop-nonce-preserved c =
