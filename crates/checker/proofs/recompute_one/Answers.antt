@@ -20,9 +20,6 @@ unfolding part mseed_eq_of
 returns-clause-keys c =
     let w = c.args.work.now in
     let h = c.requires.pk_len in
-    let q = c.expand-q.ensures in
-    let z = c.at_points-z.ensures in
-    let b = c.at_vectors-v in
     let a = c.at_alpha0-a in
     let y = c.add_column in
     let f = lent a.result at_alpha0 476 a.ensures y.new.out w (omega (arith, h)) y.auto.out in

@@ -18,7 +18,6 @@ put_roots-requires-clause-work_len c =
 
 pub returns-clause-keys : goal.returns-clause-keys
 returns-clause-keys c =
-    let a = c.args in
     let v = c.at_vectors-v in
     let p = c.plain_keys in
     let g = lent-front v.result 18304 v.ensures p.new.out c.args.work.now (omega (arith, c.requires)) p.auto.out in

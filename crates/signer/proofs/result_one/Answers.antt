@@ -18,7 +18,6 @@ unfolding part mseed_eq_of
 returns-clause-rest c =
     let i = c.args.i in
     let w = c.args.work.now in
-    let v = c.at_vectors-v in
     let a = c.at_alpha0-a in
     let k = c.add_column in
     let b = c.at_alpha1-b in
