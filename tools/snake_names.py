@@ -1,19 +1,19 @@
 #!/usr/bin/env python3
 """Brings this repository's own definitions and lemmas to snake case, after the kit's port.py: seedDerive becomes seed_derive.
 
-usage: python3 tools/snake_names.py    at the top of the repository
+usage: python3 tools/snake_names.py [--dry]    at the top of the repository; with --dry it only says which names meet others
 
 A name is turned where crates/*/specs or crates/*/proofs declare or bind it. A name of several parts, joined by a dash, is turned part by
 part; a part that begins with a capital (a type, a module) or with no hump stays. Names of one capital letter (N, A, B, X, U), which are
 those of document 001, stay. It writes .antt files, the clauses of .rt files, must-fail edits, and in docs/ what stands between backticks.
 """
 import glob
-import os
 import re
 import sys
 
 WORD = re.compile(r"[^\s(){}\[\],.;:=|\"`]+")
 HUMP = re.compile(r"([a-z0-9₀-₉])([A-Z])")
+
 
 def turned(name):
     parts = name.split("-")
@@ -23,7 +23,8 @@ def turned(name):
             parts[i] = "get_or"
             continue
         if p[:1].islower() and HUMP.search(p):
-            parts[i] = HUMP.sub(lambda m: m.group(1) + "_" + m.group(2), p).lower() if p.isascii() else HUMP.sub(lambda m: m.group(1) + "_" + m.group(2).lower(), p)
+            p = HUMP.sub(lambda m: m.group(1) + "_" + m.group(2).lower(), p)
+            parts[i] = p.lower() if p.isascii() else p
     return "-".join(parts)
 
 
