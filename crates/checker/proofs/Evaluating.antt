@@ -1,5 +1,5 @@
 -- A repetition evaluated: what stands in the workspace after the writes of eval_one (algorithm 12). Assumes nothing.
-use mathlib.Core.Path.{◌≡◌, refl, sym, ap, ap₂, subst, ◌∙◌}
+use mathlib.Core.Path.{◌≡◌, refl, sym, ap, ap₂, ◌∙◌}
 use mathlib.Core.List.{List, ◌++◌}
 use Prim.Native.Nat.{ℕ, ◌+◌, ◌*◌, ◌<◌, ◌≤◌}
 use native.Mathlib.Omega.{arith}
@@ -14,10 +14,9 @@ use Rattle.octets.proofs.Place.{length-place}
 use Rattle.octets.proofs.Frame.{vec-place, vec-place-before, part-before, part-after, part-place, part-add, part-turn, part_none}
 use Rattle.algebra.specs.Folding.{point}
 use Rattle.paper.specs.Commit.{hash_ls_com, lscom_in, x_eval, u_eval}
-use Rattle.paper.specs.Challenge.{hidden_in}
 use Rattle.workspace.specs.Map.{at_vectors, at_tree, at_hashes, at_sent, at_alpha0}
 use Rattle.equations.specs.Put.{Put}
-use Rattle.checker.specs.State.{rest_of, Placed, Evaluated, EvaluatedIn}
+use Rattle.checker.specs.State.{rest_of, Placed, Evaluated}
 
 pub length-rest_of : (u a : List ℕ) (r : ℕ) → length (rest_of u a r) ≡ 28
 unfolding rest_of
@@ -145,20 +144,3 @@ placed d m v x e r he lm put q = record {
   where
     away : (j : ℕ) → (j ≡ 10752 + e → ⊥) → vec v j ≡ vec m j
     away j ne = ap (λ (l : List ℕ). vec l j) q ∙ get_or-set_other m (10752 + e) j r 0 ne
-
--- ---- the loop
-
-pub record EvaluatedTo (sig c : List ℕ) (n : ℕ) (w : List ℕ) : Type 0 where
-  pub small : n ≤ 17
-  pub size : length w ≡ 65536
-  pub holds : EvaluatedIn sig (hidden_in c) n w
-
-pub loop-turn : (sig c : List ℕ) (n : ℕ) (w w' : List ℕ) → n < 17 → EvaluatedTo sig c n w → length w' ≡ length w
-    → (EvaluatedIn sig (hidden_in c) n w → EvaluatedIn sig (hidden_in c) (n + 1) w')
-    → EvaluatedTo sig c (n + 1) w'
-loop-turn sig c n w w' hn h l f = record { small = omega arith; size = l ∙ h.size; holds = f h.holds }
-
-pub loop-end : (sig c : List ℕ) (n : ℕ) (w : List ℕ) → 17 ≤ n → EvaluatedTo sig c n w → EvaluatedIn sig (hidden_in c) 17 w
-loop-end sig c n w hn h =
-    let e : n ≡ 17 = omega (arith, h.small) in
-    subst (λ (m : ℕ). EvaluatedIn sig (hidden_in c) m w) e h.holds

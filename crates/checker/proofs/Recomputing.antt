@@ -1,8 +1,8 @@
 -- The packed equations at the opened points, one after the other (algorithm 8): what stands in the workspace before them, after the writes of
 -- recompute_one, and in the end. Assumes nothing.
-use mathlib.Core.Path.{◌≡◌, sym, ap, ap₂, subst, ◌∙◌}
+use mathlib.Core.Path.{◌≡◌, sym, ap, ap₂, ◌∙◌}
 use mathlib.Core.List.{List, ◌++◌}
-use Prim.Native.Nat.{ℕ, ◌+◌, ◌*◌, ◌<◌, ◌≤◌}
+use Prim.Native.Nat.{ℕ, ◌+◌, ◌*◌, ◌<◌}
 use native.Mathlib.Omega.{arith}
 use borrow.Author.Count.{below_more}
 use lib.ListN.{length}
@@ -135,32 +135,8 @@ module _ (pk c1 salt paths sents a1 : List ℕ) (i : ℕ → ℕ) (v : ℕ → �
       part-add at_alpha0 476 476 (place at_alpha1 a1 w)
       ∙ ap₂ ◌++◌ (part-before at_alpha0 476 at_alpha1 a1 w (omega arith) (omega arith) ∙ alphas-are) (part-place at_alpha1 476 a1 w la (omega arith))
 
--- ---- the loop
+-- ---- before turn n of the loop
 
 pub record RecomputedTo (pk start : List ℕ) (n : ℕ) (w : List ℕ) : Type 0 where
-  pub small : n ≤ 28
-  pub size : length w ≡ 65536
   pub keys : part 0 18304 w ≡ plain_keys
   pub adds : (x : ℕ → ℕ → ℕ) (p : ℕ → ℕ) (rest v : ℕ → ℕ → ℕ) → Vectors x p v → Recomputed pk x p rest v 0 start → Recomputed pk x p rest v n w
-
-pub loop-none : (pk w : List ℕ) → length w ≡ 65536 → part 0 18304 w ≡ plain_keys → RecomputedTo pk w 0 w
-loop-none pk w hw k = record { small = omega arith; size = hw; keys = k; adds = λ x p rest v l r. r }
-
-pub loop-turn : (pk start : List ℕ) (n : ℕ) (w w' : List ℕ) → n < 28 → RecomputedTo pk start n w → length w' ≡ length w → part 0 18304 w' ≡ plain_keys
-    → ((x : ℕ → ℕ → ℕ) (p : ℕ → ℕ) (rest v : ℕ → ℕ → ℕ) → Vectors x p v → Recomputed pk x p rest v n w → Recomputed pk x p rest v (n + 1) w')
-    → RecomputedTo pk start (n + 1) w'
-loop-turn pk start n w w' hn h l k f = record {
-  small = omega arith;
-  size = l ∙ h.size;
-  keys = k;
-  adds = λ x p rest v lanes r. f x p rest v lanes (h.adds x p rest v lanes r);
-}
-
-pub loop-end : (pk start : List ℕ) (n : ℕ) (w : List ℕ) → 28 ≤ n → RecomputedTo pk start n w
-    → (x : ℕ → ℕ → ℕ) (p : ℕ → ℕ) (rest v : ℕ → ℕ → ℕ)
-    → Vectors x p v
-    → Recomputed pk x p rest v 0 start
-    → Recomputed pk x p rest v 28 w
-loop-end pk start n w hn h x p rest v lanes r =
-    let e : n ≡ 28 = omega (arith, h.small) in
-    subst (λ (m : ℕ). Recomputed pk x p rest v m w) e (h.adds x p rest v lanes r)

@@ -66,13 +66,10 @@ fn eval_one(t: &[u32; 1024], sig: &[u8], work: &mut [u8], hidden: u8, e: usize)
         &mut work[a..a + 12289],
     );
     let r = lines::point(hidden);
-    let x = v.x;
     let m = workspace::at_vectors();
-    put_values(&mut work[m..m + 10944], e, x, r);
+    put_values(&mut work[m..m + 10944], e, v.x, r);
     let b = 80 + 28 * e;
-    let g = v.hash;
-    let u = v.u;
-    keep_values(work, e, g, u, &sig[b..b + 28], r);
+    keep_values(work, e, v.hash, v.u, &sig[b..b + 28], r);
 }
 
 fn eval_all(t: &[u32; 1024], sig: &[u8], c: &[u8], work: &mut [u8])
@@ -80,10 +77,8 @@ fn eval_all(t: &[u32; 1024], sig: &[u8], c: &[u8], work: &mut [u8])
     requires sig_len { (length sig.now ≡ 3484) × (length c.now ≡ 19) × (length work.old ≡ 65536) }
     ensures { EvaluatedIn sig.now (hidden_in c.now) 17 work.new }
 {
-    let mut e: usize = 0;
-    while e < 17 {
+    for e in 0..17 {
         eval_one(t, sig, work, c[e], e);
-        e += 1;
     }
 }
 
@@ -123,10 +118,8 @@ fn recompute_all(t: &[u32; 1024], pk: &[u8], work: &mut [u8])
     requires work_value { part 0 18304 work.old ≡ plain_keys }
     ensures { (x : ℕ → ℕ → ℕ) (p : ℕ → ℕ) (rest v : ℕ → ℕ → ℕ) → Vectors x p v → Recomputed pk.now x p rest v 0 work.old → Recomputed pk.now x p rest v 28 work.new }
 {
-    let mut i: usize = 0;
-    while i < 28 {
+    for i in 0..28 {
         recompute_one(t, pk, work, i);
-        i += 1;
     }
 }
 

@@ -34,10 +34,8 @@ fn put_roots(t: &[u32; 1024], work: &mut [u8], m: Cols)
     requires work_len { (length work.old ≡ 65536) × (part 0 18304 work.old ≡ plain_keys) }
     ensures { work.new ≡ place at_roots (joined 17 (rseed (block_of m))) work.old }
 {
-    let mut e: usize = 0;
-    while e < 17 {
+    for e in 0..17 {
         put_root(t, work, m, e);
-        e += 1;
     }
 }
 
@@ -47,14 +45,10 @@ fn keep_lines(work: &mut [u8], e: usize, l: Lines)
     ensures sizes { (length l.hash ≡ 32) × (length l.u0 ≡ 28) × (length l.u1 ≡ 28) × (length l.correction ≡ 12) }
     ensures kept { work.new ≡ place (at_sent + 12 * e) l.correction (place (at_alpha1 + 28 * e) l.u1 (place (at_alpha0 + 28 * e) l.u0 (place (at_hashes + 32 * e) l.hash work.old))) }
 {
-    let h = l.hash;
-    let u0 = l.u0;
-    let u1 = l.u1;
-    let d = l.correction;
-    octets::put(&h, work, workspace::HASHES + 32 * e);
-    octets::put(&u0, work, workspace::ALPHA0 + 28 * e);
-    octets::put(&u1, work, workspace::ALPHA1 + 28 * e);
-    octets::put(&d, work, workspace::SENT + 12 * e);
+    octets::put(&l.hash, work, workspace::HASHES + 32 * e);
+    octets::put(&l.u0, work, workspace::ALPHA0 + 28 * e);
+    octets::put(&l.u1, work, workspace::ALPHA1 + 28 * e);
+    octets::put(&l.correction, work, workspace::SENT + 12 * e);
 }
 
 fn commit_one(t: &[u32; 1024], x: &[u8], salt: Cols, work: &mut [u8], e: usize)
@@ -66,9 +60,8 @@ fn commit_one(t: &[u32; 1024], x: &[u8], salt: Cols, work: &mut [u8], e: usize)
     let r = aes::load(work, workspace::ROOTS + 16 * e);
     let a = workspace::at_tree();
     let l = lines::commit(t, salt, e, r, x, &mut work[a..a + 12289]);
-    let x0 = l.x0;
     let v = workspace::at_vectors();
-    equations::put_lane(&mut work[v..v + 10944], e, x0);
+    equations::put_lane(&mut work[v..v + 10944], e, l.x0);
     keep_lines(work, e, l);
 }
 
@@ -78,10 +71,8 @@ fn commit_all(t: &[u32; 1024], x: &[u8], salt: Cols, work: &mut [u8])
     ensures keys { Within 18304 25049 work.old work.new }
     ensures adds { (m : List ℕ) → Committed m (block_of salt) x.now 0 work.old → Committed m (block_of salt) x.now 17 work.new }
 {
-    let mut e: usize = 0;
-    while e < 17 {
+    for e in 0..17 {
         commit_one(t, x, salt, work, e);
-        e += 1;
     }
 }
 
@@ -109,13 +100,11 @@ fn result_one(t: &[u32; 1024], pk: &[u8], work: &mut [u8], i: usize) -> u8
     let v = workspace::at_vectors();
     let q = equations::expansion::expand(t, &work[..v], &pk[0..32], i);
     let z = equations::on_lines(&work[v..v + 10944], &q);
-    let z0 = z.z0;
-    let z1 = z.z1;
     let a = workspace::at_alpha0();
-    equations::add_column(&mut work[a..a + 476], i, z0);
+    equations::add_column(&mut work[a..a + 476], i, z.z0);
     let b = workspace::at_alpha1();
-    equations::add_column(&mut work[b..b + 476], i, z1);
-    z0[17] ^ pk[32 + i]
+    equations::add_column(&mut work[b..b + 476], i, z.z1);
+    z.z0[17] ^ pk[32 + i]
 }
 
 fn results(t: &[u32; 1024], pk: &[u8], work: &mut [u8]) -> bool
@@ -125,10 +114,8 @@ fn results(t: &[u32; 1024], pk: &[u8], work: &mut [u8]) -> bool
     ensures adds { AddsAll pk.now work.old result work.new }
 {
     let mut d: u8 = 0;
-    let mut i: usize = 0;
-    while i < 28 {
+    for i in 0..28 {
         d |= result_one(t, pk, work, i);
-        i += 1;
     }
     d == 0
 }
@@ -183,10 +170,8 @@ fn write_openings(t: &[u32; 1024], x: &[u8], salt: Cols, c: &[u8], work: &[u8], 
     requires x_len { (length x.now ≡ 28) × (length c.now ≡ 19) × (length work.now ≡ 65536) × (length sig.old ≡ 3484) }
     ensures { (m : List ℕ) → Openable m (block_of salt) x.now work.now → sig.new ≡ openings m (block_of salt) x.now (hidden_in c.now) 17 sig.old }
 {
-    let mut e: usize = 0;
-    while e < 17 {
+    for e in 0..17 {
         write_opening(t, x, salt, c[e] as usize, work, sig, e);
-        e += 1;
     }
 }
 

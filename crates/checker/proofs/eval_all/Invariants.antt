@@ -1,10 +1,7 @@
 -- `checker::eval_all` meets its contract. Assumes nothing.
-use Prim.Native.Nat.{◌-◌}
-use Rattle.checker.proofs.Evaluating.{EvaluatedTo}
+use Rattle.paper.specs.Challenge.{hidden_in}
+use Rattle.checker.specs.State.{EvaluatedIn}
 use Rattle.checker.proofs.eval_all.Given as goal
 
 abbrev pub invariant-loop-e : goal.invariant-loop-e
-invariant-loop-e l = EvaluatedTo l.sig l.c l.e l.work
-
-abbrev pub decreases-loop-e : goal.decreases-loop-e
-decreases-loop-e l = 17 - l.e
+invariant-loop-e l = EvaluatedIn l.sig (hidden_in l.c) l.e l.work

@@ -1,10 +1,6 @@
 -- `checker::recompute_all` meets its contract. Assumes nothing.
-use Prim.Native.Nat.{◌-◌}
 use Rattle.checker.proofs.Recomputing.{RecomputedTo}
 use Rattle.checker.proofs.recompute_all.Given as goal
 
 abbrev pub invariant-loop-i : goal.invariant-loop-i
 invariant-loop-i l = RecomputedTo l.pk l.initial.work l.i l.work
-
-abbrev pub decreases-loop-i : goal.decreases-loop-i
-decreases-loop-i l = 28 - l.i

@@ -1,6 +1,5 @@
 -- `signer::put_roots` meets its contract: before turn e the first e root seeds stand. Assumes nothing.
 use mathlib.Core.Path.{◌≡◌}
-use Prim.Native.Nat.{◌-◌, ◌≤◌}
 use Rattle.octets.specs.Lists.{joined}
 use Rattle.octets.specs.Place.{place}
 use Rattle.aes.specs.Words.{block_of}
@@ -9,7 +8,4 @@ use Rattle.workspace.specs.Map.{at_roots}
 use Rattle.signer.proofs.put_roots.Given as goal
 
 abbrev pub invariant-loop-e : goal.invariant-loop-e
-invariant-loop-e l = (l.e ≤ 17) × (l.work ≡ place at_roots (joined l.e (rseed (block_of l.m))) l.initial.work)
-
-abbrev pub decreases-loop-e : goal.decreases-loop-e
-decreases-loop-e l = 17 - l.e
+invariant-loop-e l = l.work ≡ place at_roots (joined l.e (rseed (block_of l.m))) l.initial.work

@@ -1,11 +1,7 @@
 -- `signer::results` meets its contract: before turn i, i equations are added. Assumes nothing.
-use Prim.Native.Nat.{◌-◌, ◌≤◌}
 use Rattle.signer.specs.State.{Within}
 use Rattle.signer.proofs.Columns.{Sums}
 use Rattle.signer.proofs.results.Given as goal
 
 abbrev pub invariant-loop-i : goal.invariant-loop-i
-invariant-loop-i l = (l.i ≤ 28) × Within 42401 952 l.initial.work l.work × Sums l.pk l.initial.work l.i l.work l.d
-
-abbrev pub decreases-loop-i : goal.decreases-loop-i
-decreases-loop-i l = 28 - l.i
+invariant-loop-i l = Within 42401 952 l.initial.work l.work × Sums l.pk l.initial.work l.i l.work l.d

@@ -1,24 +1,19 @@
 -- `signer::write_openings` meets its contract: before turn e, e openings are written. Assumes nothing.
-use mathlib.Core.Path.{refl, ap, ◌∙◌}
-use native.Mathlib.Omega.{arith}
+use Rattle.std.proofs.Common.{arith, ap, ◌∙◌}
 use Rattle.paper.specs.Challenge.{hidden_in}
 use Rattle.signer.specs.Written.{opening_at}
 use Rattle.signer.proofs.Openings.{openings-start, openings-turn}
 use Rattle.signer.proofs.write_openings.Goals as goal
 
 pub loop-e-init : goal.loop-e-init
-loop-e-init c = (omega arith, refl, λ m g. openings-start m _ _ _ _)
+loop-e-init c = λ m g. openings-start m _ _ _ _
 
 pub loop-e-preserved : goal.loop-e-preserved
 unfolding opening_at hidden_in
 loop-e-preserved c =
     let a = c.args in
     let l = c.loop-e in
-    let k = c.write_opening in (
-      omega arith,
-      k.auto.sig ∙ l.invariant.1,
-      λ m g.
-          k.ensures m g
-          ∙ ap (opening_at m _ a.x.now (hidden_in a.c.now) l.e) (l.invariant.2 m g)
-          ∙ openings-turn m _ a.x.now (hidden_in a.c.now) g.seed c.requires.x_len.0 (λ k. (c.type_inv.c k).fits) l.e a.sig.now (omega arith),
-    )
+    λ m g.
+        c.write_opening.ensures m g
+        ∙ ap (opening_at m _ a.x.now (hidden_in a.c.now) l.e) (l.invariant m g)
+        ∙ openings-turn m _ a.x.now (hidden_in a.c.now) g.seed c.requires.x_len.0 (λ k. (c.type_inv.c k).fits) l.e a.sig.now (omega arith)

@@ -1,15 +1,11 @@
 -- `signer::write_openings` meets its contract: before turn e, e openings are written. Assumes nothing.
 use mathlib.Core.Path.{◌≡◌}
 use mathlib.Core.List.{List}
-use Prim.Native.Nat.{ℕ, ◌-◌, ◌≤◌}
-use lib.ListN.{length}
+use Prim.Native.Nat.{ℕ}
 use Rattle.aes.specs.Words.{block_of}
 use Rattle.paper.specs.Challenge.{hidden_in}
 use Rattle.signer.specs.Written.{Openable, openings}
 use Rattle.signer.proofs.write_openings.Given as goal
 
 abbrev pub invariant-loop-e : goal.invariant-loop-e
-invariant-loop-e l = (l.e ≤ 17) × (length l.sig ≡ length l.initial.sig) × ((m : List ℕ) → Openable m (block_of l.salt) l.x l.work → l.sig ≡ openings m (block_of l.salt) l.x (hidden_in l.c) l.e l.initial.sig)
-
-abbrev pub decreases-loop-e : goal.decreases-loop-e
-decreases-loop-e l = 17 - l.e
+invariant-loop-e l = (m : List ℕ) → Openable m (block_of l.salt) l.x l.work → l.sig ≡ openings m (block_of l.salt) l.x (hidden_in l.c) l.e l.initial.sig
