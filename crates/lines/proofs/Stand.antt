@@ -42,12 +42,12 @@ module _ (keys room₀ : List ℕ) where
     pub first : vec room 4096 ≡ selector for_leaves
     pub done : part 4097 (32 * i) room ≡ joined i coms_in
 
-  pub standing-turn : (i : ℕ) (room next : List ℕ) → length keys ≡ 2112 → length room₀ ≡ 12289 → i < 256
+  pub standing-turn : (i : ℕ) (room next : List ℕ) → length keys ≡ 2112 → i < 256
       → next ≡ place (4097 + 32 * i) (com_by keys (leaf_at room i)) room → Standing i room → Standing (i + 1) next
-  standing-turn i room next hk h₀ hi e S = subst (Standing (i + 1)) (sym (e ∙ ap (λ (x : List ℕ). place (4097 + 32 * i) x room) leaf)) turned
+  standing-turn i room next hk hi e S = subst (Standing (i + 1)) (sym (e ∙ ap (λ (x : List ℕ). place (4097 + 32 * i) x room) leaf)) turned
     where
       front : length (part 0 4096 room₀) ≡ 4096
-      front = length_part 0 4096 room₀ (omega arith)
+      front = ap length (sym S.seeds) ∙ length_part 0 4096 room (omega (arith, S.long))
 
       leaf : com_by keys (leaf_at room i) ≡ coms_in i
       leaf = ap (com_by keys) (leaf-front room i S.long hi ∙ ap (λ (l : List ℕ). leaf_at l i) S.seeds)

@@ -2,7 +2,7 @@
 // caller lends, of which nothing is said afterwards but its length.
 #![tactic(auto)]
 
-ghost use Rattle.std.specs.Prelude.{◌≡◌, List, ℕ, ◌+◌, ◌*◌, ◌<◌, length};
+ghost use Rattle.std.specs.Prelude.{◌≡◌, List, ℕ, ◌+◌, ◌*◌, ◌<◌, length, unwrap_or};
 ghost use Rattle.octets.specs.Lists.{vec, part};
 ghost use Rattle.octets.specs.Place.{place};
 ghost use Rattle.algebra.specs.Folding.{point as point_of};
@@ -81,7 +81,7 @@ fn commit_leaf(t: &[u32; 1024], keys: &[u8], room: &mut [u8], i: usize)
     let s = aes::load(room, 16 * i);
     let c = commitment(t, keys, s);
     let p = 4097 + 32 * i;
-    octets::copy(&c, &mut room[p..p + 32]);
+    room[p..p + 32].copy_from_slice(&c);
 }
 
 // The commitments of all leaves, behind Hash_6's selector.
@@ -91,10 +91,8 @@ fn commit_leaves(t: &[u32; 1024], keys: &[u8], room: &mut [u8])
     ensures { Stands (part 0 4096 room.old) (coms_by keys.now (part 0 4096 room.old)) room.new }
 {
     room[4096] = seeds::selector(seeds::LEAVES);
-    let mut i: usize = 0;
-    while i < 256 {
+    for i in 0..256 {
         commit_leaf(t, keys, room, i);
-        i += 1;
     }
 }
 
@@ -115,7 +113,7 @@ fn put_hidden(room: &mut [u8], hidden: usize, out: &[u8])
     ensures { room.new ≡ place (4097 + 32 * hidden) out.now room.old }
 {
     let p = 4097 + 32 * hidden;
-    octets::copy(out, &mut room[p..p + 32]);
+    room[p..p + 32].copy_from_slice(out);
 }
 
 // The checker's tree, of the hidden leaf's sibling path and commitment.
@@ -138,12 +136,12 @@ fn leaves_hash(room: &[u8]) -> [u8; 32]
 }
 
 // The tape of leaf i, and zeros for the hidden leaf.
-fn raw(t: &[u32; 1024], keys: &[u8], leaves: &[u8], i: usize, hidden: usize) -> [u8; 56]
+fn raw(t: &[u32; 1024], keys: &[u8], leaves: &[u8], i: usize, hidden: Option<usize>) -> [u8; 56]
     requires table { Table t.now }
     requires keys_len { (length keys.now ≡ 2112) × (length leaves.now ≡ 4096) × (i < 256) }
-    ensures { (b : ℕ) → b < 56 → vec result b ≡ raw_by keys.now leaves.now hidden i b }
+    ensures { (b : ℕ) → b < 56 → vec result b ≡ raw_by keys.now leaves.now (unwrap_or hidden 256) i b }
 {
-    if i == hidden {
+    if hidden == Some(i) {
         return [0u8; 56];
     }
     let s = aes::load(leaves, 16 * i);
@@ -151,27 +149,25 @@ fn raw(t: &[u32; 1024], keys: &[u8], leaves: &[u8], i: usize, hidden: usize) -> 
 }
 
 // A turn of ComputeFolding (13): the tape of leaf i.
-fn fold_leaf(t: &[u32; 1024], keys: &[u8], leaves: &[u8], i: usize, hidden: usize, f: &mut [u8])
+fn fold_leaf(t: &[u32; 1024], keys: &[u8], leaves: &[u8], i: usize, hidden: Option<usize>, f: &mut [u8])
     requires table { Table t.now }
     requires keys_len { (length keys.now ≡ 2112) × (length leaves.now ≡ 4096) × (i < 256) × (length f.old ≡ 504) }
-    ensures { Folds f.old (raw_by keys.now leaves.now hidden) i → Folds f.new (raw_by keys.now leaves.now hidden) (i + 1) }
+    ensures { Folds f.old (raw_by keys.now leaves.now (unwrap_or hidden 256)) i → Folds f.new (raw_by keys.now leaves.now (unwrap_or hidden 256)) (i + 1) }
 {
     let r = raw(t, keys, leaves, i, hidden);
     let p = folding::position(i);
     folding::add_tape(f, r, p);
 }
 
-// ComputeFolding, lines 1 to 5, of all leaves but the hidden one; of all where `hidden` is 256.
-fn fold_leaves(t: &[u32; 1024], keys: &[u8], leaves: &[u8], hidden: usize) -> [u8; 504]
+// ComputeFolding, lines 1 to 5, of all leaves but the hidden one. Where none is hidden, a clause has 256 for it.
+fn fold_leaves(t: &[u32; 1024], keys: &[u8], leaves: &[u8], hidden: Option<usize>) -> [u8; 504]
     requires table { Table t.now }
     requires keys_len { (length keys.now ≡ 2112) × (length leaves.now ≡ 4096) }
-    ensures { Folds result (raw_by keys.now leaves.now hidden) 256 }
+    ensures { Folds result (raw_by keys.now leaves.now (unwrap_or hidden 256)) 256 }
 {
     let mut f = [0u8; 504];
-    let mut i: usize = 0;
-    while i < 256 {
+    for i in 0..256 {
         fold_leaf(t, keys, leaves, i, hidden, &mut f);
-        i += 1;
     }
     f
 }
@@ -203,7 +199,7 @@ pub fn commit(t: &[u32; 1024], salt: Cols, e: usize, r: Cols, x: &[u8], room: &m
     let keys = seeds::tree_keys(t, salt, e);
     grow(t, &keys, r, x, room);
     let h = leaves_hash(room);
-    let f = fold_leaves(t, &keys, &room[..4096], 256);
+    let f = fold_leaves(t, &keys, &room[..4096], None);
     of_folded(h, &f, x)
 }
 
@@ -261,6 +257,6 @@ pub fn eval(
     let i = hidden as usize;
     rebuild(t, &keys, i, path, out, room);
     let h = leaves_hash(room);
-    let f = fold_leaves(t, &keys, &room[..4096], i);
+    let f = fold_leaves(t, &keys, &room[..4096], Some(i));
     at_point(h, &f, sent, point(hidden))
 }
