@@ -10,6 +10,10 @@ use borrow.Author.Count.{below_more}
 use borrow.Author.Tests.{eq-eqb, eqb-true, eqb-false}
 use lib.ListN.{length}
 use lib.Seq.{ext_get_or}
+use Rattle.std.specs.Cmp.{both_ways}
+use Rattle.std.specs.List.{fold, zip}
+use Rattle.std.proofs.lemmas.Bool.{and_parts, and_from}
+use Rattle.std.proofs.Math.Bool.{and-true, and_assoc}
 use Rattle.octets.specs.Lists.{vec, alike}
 use Rattle.octets.proofs.Xor.{⊕-eq, xor-is-⊕}
 
@@ -26,11 +30,7 @@ unfolding alike
 alike-eq [] [] h = refl
 alike-eq [] (y ∷ b) h = cc
 alike-eq (x ∷ a) [] h = cc
-alike-eq (x ∷ a) (y ∷ b) h = ap₂ ◌∷◌ (eqb-true x y (both (eqb x y) (alike a b) h).0) (alike-eq a b (both (eqb x y) (alike a b) h).1)
-  where
-    both : (p q : Bool) → (p && q) ≡ true → (p ≡ true) × (q ≡ true)
-    both true q h = (refl, h)
-    both false q h = (h, cc)
+alike-eq (x ∷ a) (y ∷ b) h = let p = and_parts (eqb x y) (alike a b) h in ap₂ ◌∷◌ (eqb-true x y p.0) (alike-eq a b p.1)
 
 -- what is not equal
 pub alike-ne : (a b : List ℕ) → (a ≡ b → ⊥) → alike a b ≡ false
@@ -42,6 +42,35 @@ alike-ne a b h = go (alike a b) refl
 
 pub alike-lengths : (a b : List ℕ) → (length a ≡ length b → ⊥) → alike a b ≡ false
 alike-lengths a b h = alike-ne a b (λ e. h (ap length e))
+
+-- ---- the digits in which two lists differ, gathered pair by pair
+
+abbrev pub differ : ℕ → ℕ × ℕ → ℕ
+differ d p = bit_or d (bit_xor p.0 p.1)
+
+or_zero : (a b : ℕ) → bit_or a b ≡ 0 → (a ≡ 0) × (b ≡ 0)
+or_zero a b e = (omega (arith, e, or_add_and a b, and_le_l a b, and_le_r a b), omega (arith, e, or_add_and a b, and_le_l a b, and_le_r a b))
+
+differ-zero : (d x y : ℕ) → eqb (differ d (x, y)) 0 ≡ (eqb d 0 && eqb x y)
+differ-zero d x y = both_ways _ _ there back
+  where
+    there : eqb (differ d (x, y)) 0 ≡ true → (eqb d 0 && eqb x y) ≡ true
+    there e =
+        let z = or_zero d (bit_xor x y) (eqb-true _ 0 e) in
+        and_from (eqb d 0) (eqb x y) (eq-eqb d 0 z.0) (eq-eqb x y (⊕-eq x y (sym (xor-is-⊕ x y) ∙ z.1)))
+
+    back : (eqb d 0 && eqb x y) ≡ true → eqb (differ d (x, y)) 0 ≡ true
+    back e =
+        let p = and_parts (eqb d 0) (eqb x y) e in
+        eq-eqb _ 0 (ap₂ bit_or (eqb-true d 0 p.0) (ap (λ (z : ℕ). bit_xor z y) (eqb-true x y p.1) ∙ xor_self y))
+
+pub differ-alike : (a b : List ℕ) (d : ℕ) → length a ≡ length b → eqb (fold differ d (zip a b)) 0 ≡ (eqb d 0 && alike a b)
+unfolding alike
+differ-alike [] [] d h = sym (and-true (eqb d 0))
+differ-alike [] (y ∷ b) d h = absurd (omega arith)
+differ-alike (x ∷ a) [] d h = absurd (omega arith)
+differ-alike (x ∷ a) (y ∷ b) d h =
+    differ-alike a b (differ d (x, y)) (omega arith) ∙ ap (λ (t : Bool). t && alike a b) (differ-zero d x y) ∙ and_assoc (eqb d 0) (eqb x y) (alike a b)
 
 -- ---- a loop that gathers in d the digits in which a and b differ before place i
 

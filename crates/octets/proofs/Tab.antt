@@ -1,11 +1,14 @@
 -- The laws of `tab`: a list made of a function. Assumes nothing.
-use mathlib.Core.Path.{◌≡◌, refl, sym, ap, ◌∙◌}
+use mathlib.Core.Path.{◌≡◌, refl, sym, ap, subst, ◌∙◌}
 use mathlib.Core.List.{List, ◌∷◌, ◌++◌}
 use Prim.Native.Nat.{ℕ, zero, suc, ◌+◌, ◌<◌}
-use native.Mathlib.Nat.{not-suc-le-zero}
+use native.Mathlib.Nat.{not-suc-le-zero, add-zero, zero-add}
 use native.Mathlib.Omega.{arith}
 use lib.ListN.{length}
 use lib.Seq.{ext_get_or}
+use denote.Param.Members.{Mut}
+use Rattle.std.specs.Fn.{Called}
+use Rattle.std.specs.Array.{IsFromFnResult, IsFromFnResultFrom}
 use Rattle.octets.specs.Lists.{vec, tab}
 
 pub length-tab : (n : ℕ) (f : ℕ → ℕ) → length (tab n f) ≡ n
@@ -43,3 +46,18 @@ tab-append (suc n) m f =
   where
     more : suc n + m ≡ suc (n + m)
     more = omega arith
+
+-- an array made by `array::from_fn`, of a closure that stays as it is
+module _ {F : Type 0} (g : Mut F (ℕ × Unit {0}) ℕ) (f : F) (h : ℕ → ℕ) (call : (i y : ℕ) (q : F) → Called g f (i, tt) y q → (q ≡ f) × (y ≡ h i)) where
+  made_at : (ys : List ℕ) (i n k : ℕ) → IsFromFnResultFrom g f ys i n → k < n → vec ys (i + k) ≡ h (i + k)
+  made_at ys i zero k m l = absurd (not-suc-le-zero l)
+  made_at ys i (suc n) zero m l =
+      let here : vec ys i ≡ h i = m.2.1 0 ∙ (call i m.1 m.0 m.3).1 in
+      subst (λ (j : ℕ). vec ys j ≡ h j) (sym (add-zero i)) here
+  made_at ys i (suc n) (suc k) m l =
+      let next : i + 1 + k ≡ i + suc k = omega arith in
+      let rest : IsFromFnResultFrom g f ys (i + 1) n = subst (λ (p : F). IsFromFnResultFrom g p ys (i + 1) n) (call i m.1 m.0 m.3).0 m.4 in
+      subst (λ (j : ℕ). vec ys j ≡ h j) next (made_at ys (i + 1) n k rest (omega arith))
+
+  pub from_fn-tab : (ys : List ℕ) (n : ℕ) → IsFromFnResult g f ys n → ys ≡ tab n h
+  from_fn-tab ys n m = is-tab n h ys m.long (λ i l. subst (λ (j : ℕ). vec ys j ≡ h j) (zero-add i) (made_at ys 0 n i m.each l))

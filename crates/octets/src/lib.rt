@@ -9,11 +9,7 @@ ghost use Rattle.octets.specs.Place.{place};
 pub fn fill(buf: &mut [u8], v: u8)
     ensures { buf.new ≡ replicate (length buf.old) v }
 {
-    let mut i = 0;
-    while i < buf.len() {
-        buf[i] = v;
-        i += 1;
-    }
+    buf.fill(v);
 }
 
 // Every byte of buf is 0 afterwards.
@@ -28,11 +24,7 @@ pub fn copy(src: &[u8], dst: &mut [u8])
     requires { length src.now ≡ length dst.old }
     ensures { dst.new ≡ src.now }
 {
-    let mut i = 0;
-    while i < dst.len() {
-        dst[i] = src[i];
-        i += 1;
-    }
+    dst.copy_from_slice(src);
 }
 
 // text is written into out from place at on.
@@ -40,7 +32,7 @@ pub fn put(text: &[u8], out: &mut [u8], at: usize)
     requires { at + length text.now ≤ length out.old }
     ensures { out.new ≡ place at text.now out.old }
 {
-    copy(text, &mut out[at..at + text.len()]);
+    out[at..at + text.len()].copy_from_slice(text);
 }
 
 // Whether a and b hold the same bytes. Of two that are equally long every byte is read, whatever they hold.
@@ -50,11 +42,6 @@ pub fn same(a: &[u8], b: &[u8]) -> bool
     if a.len() != b.len() {
         return false;
     }
-    let mut d: u8 = 0;
-    let mut i = 0;
-    while i < a.len() {
-        d |= a[i] ^ b[i];
-        i += 1;
-    }
+    let d = a.iter().zip(b).fold(0, |d, (x, y)| d | (x ^ y));
     d == 0
 }
