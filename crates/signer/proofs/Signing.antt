@@ -20,8 +20,9 @@ use Rattle.paper.specs.Scheme.{transcript, sign_com1, sign_com2, sign_alpha1, si
 use Rattle.paper.proofs.Keys.{length-solution_of}
 use Rattle.paper.proofs.Commit.{length-sent}
 use Rattle.paper.proofs.Challenge.{hidden-lt}
-use Rattle.transcript.specs.declared.Search.TheVariants.{Found, Spent}
+use Rattle.std.specs.Prelude.{Some, None}
 use Rattle.transcript.specs.Search.{search_of}
+use Rattle.transcript.proofs.Nonces.{found_some, spent-none}
 use Rattle.workspace.specs.Map.{at_com1, at_hashes, at_sent, at_com2, at_alpha0, at_alpha1, at_roots}
 use Rattle.signer.specs.State.{Prepared}
 use Rattle.signer.specs.Written.{Openable, openings, signature_of, Answers, Signed}
@@ -105,22 +106,12 @@ module _ (sk salt m w : List ℕ) (ok : Bool) (a b : ℕ) (hk : length sk ≡ 88
 
 -- ---- the search
 
-search-found : (o : Option ℕ) (n : ℕ) → Found n ≡ search_of o → o ≡ some n
-unfolding search_of
-search-found none n e = cc
-search-found (some k) n e = cc
-
-search-spent : (o : Option ℕ) → Spent ≡ search_of o → o ≡ none
-unfolding search_of
-search-spent none e = refl
-search-spent (some k) e = cc
-
 module _ (sk msg salt m h : List ℕ) (tries : ℕ) (eh : h ≡ transcript (public_of sk) (sign_com1 r3 sk salt m) (sign_com2 r3 sk salt m) msg) where
   same : first_below (λ n. passes (challenge h (bytes_of 4 n))) tries ≡ first_below (λ n. passes (sign_challenge r3 sk msg salt m n)) tries
   unfolding sign_challenge
   same = ap (λ (t : List ℕ). first_below (λ n. passes (challenge t (bytes_of 4 n))) tries) eh
 
-  answers-found : (n : ℕ) (sig sig' c1 c2 a1 : List ℕ) → Found n ≡ search_of (first_below (λ n. passes (challenge h (bytes_of 4 n))) tries)
+  answers-found : (n : ℕ) (sig sig' c1 c2 a1 : List ℕ) → Some n ≡ search_of (first_below (λ n. passes (challenge h (bytes_of 4 n))) tries)
       → c1 ≡ sign_com1 r3 sk salt m
       → c2 ≡ sign_com2 r3 sk salt m
       → a1 ≡ joined 17 (sign_alpha1 r3 sk salt m)
@@ -129,17 +120,17 @@ module _ (sk msg salt m h : List ℕ) (tries : ℕ) (eh : h ≡ transcript (publ
   unfolding sign_of with_nonce sign_with sign_challenge signature_of
   answers-found n sig sig' c1 c2 a1 found e1 e2 ea e =
       let is : sign_of r3 sk msg salt m tries ≡ some (sign_with r3 sk msg salt m n) =
-      ap (with_nonce r3 sk msg salt m) (sym same ∙ search-found _ n found) in
+      ap (with_nonce r3 sk msg salt m) (sym same ∙ found_some _ n (sym found)) in
       let w : sig' ≡ sign_with r3 sk msg salt m n = e ∙ cc in
       record {
         spent = λ q. let z : ◌≡◌ {A = ℕ} 0 1 = cc in absurd (omega arith);
         done = λ b q. (refl, cc);
       }
 
-  answers-spent : (sig : List ℕ) → Spent ≡ search_of (first_below (λ n. passes (challenge h (bytes_of 4 n))) tries) → Answers sk msg salt m tries sig 5 sig
+  answers-spent : (sig : List ℕ) → None ≡ search_of (first_below (λ n. passes (challenge h (bytes_of 4 n))) tries) → Answers sk msg salt m tries sig 5 sig
   unfolding sign_of with_nonce
   answers-spent sig found =
-      let is : sign_of r3 sk msg salt m tries ≡ none = ap (with_nonce r3 sk msg salt m) (sym same ∙ search-spent _ found) in
+      let is : sign_of r3 sk msg salt m tries ≡ none = ap (with_nonce r3 sk msg salt m) (sym same ∙ spent-none _ (sym found)) in
       record {
         spent = λ q. (refl, refl);
         done = λ b q. let z : ◌≡◌ {A = ℕ} 0 1 = cc in absurd (omega arith);
@@ -164,7 +155,7 @@ module _ (sk msg salt m w : List ℕ) (ok : Bool) (a b h x1 x2 : List ℕ) (s1 s
   hashed : h ≡ transcript (public_of sk) (sign_com1 r3 sk salt m) (sign_com2 r3 sk salt m) msg
   hashed = eh ∙ ap₂ (λ (y : List ℕ) (z : List ℕ). transcript (public_of sk) y z msg) first second
 
-  pub found-answers : (n : ℕ) (sig sig' : List ℕ) → Found n ≡ search_of (first_below (λ n. passes (challenge h (bytes_of 4 n))) tries)
+  pub found-answers : (n : ℕ) (sig sig' : List ℕ) → Some n ≡ search_of (first_below (λ n. passes (challenge h (bytes_of 4 n))) tries)
       → ((m : List ℕ) → Openable m salt (solution_of sk) x2 → sig' ≡ signature_of m salt (solution_of sk) a b (part at_alpha1 476 x2) (challenge h (bytes_of 4 n)) (bytes_of 4 n))
       → Answers sk msg salt m tries sig 0 sig'
   found-answers n sig sig' f e =
@@ -172,7 +163,7 @@ module _ (sk msg salt m w : List ℕ) (ok : Bool) (a b h x1 x2 : List ℕ) (s1 s
       (ap (part at_alpha1 476) both ∙ alphas-in sk salt m w ok s1 s2 hk hm hw p)
       (e m (subst (Openable m salt (solution_of sk)) (sym both) (openable sk salt m w ok s1 s2 hk hm hw p)))
 
-  pub spent-answers : (sig : List ℕ) → Spent ≡ search_of (first_below (λ n. passes (challenge h (bytes_of 4 n))) tries) → Answers sk msg salt m tries sig 5 sig
+  pub spent-answers : (sig : List ℕ) → None ≡ search_of (first_below (λ n. passes (challenge h (bytes_of 4 n))) tries) → Answers sk msg salt m tries sig 5 sig
   spent-answers sig f = answers-spent sk msg salt m h tries hashed sig f
 
 -- ---- the number

@@ -194,13 +194,13 @@ fn write_signature(
     salt: &[u8],
     com1: &[u8],
     com2: &[u8],
-    hash: &[u8],
+    hash: &[u8; 32],
     nonce: u32,
     work: &[u8],
     sig: &mut [u8],
 )
     requires table { Table t.now }
-    requires sk_len { (length sk.now ≡ 88) × (length salt.now ≡ 16) × (length com1.now ≡ 32) × (length com2.now ≡ 32) × (length hash.now ≡ 32) × (length work.now ≡ 65536) × (length sig.old ≡ 3484) }
+    requires sk_len { (length sk.now ≡ 88) × (length salt.now ≡ 16) × (length com1.now ≡ 32) × (length com2.now ≡ 32) × (length work.now ≡ 65536) × (length sig.old ≡ 3484) }
     ensures { (m : List ℕ) → Openable m salt.now (solution_of sk.now) work.now → sig.new ≡ signature_of m salt.now (solution_of sk.now) com1.now com2.now (part at_alpha1 476 work.now) (challenge hash.now (bytes_of 4 nonce)) (bytes_of 4 nonce) }
 {
     write_head(salt, com1, com2, work, sig);
@@ -227,11 +227,11 @@ fn answer(
     let b = workspace::second_commitment(work);
     let hash = transcript::fiat_shamir(&sk[0..60], &a, &b, msg);
     match transcript::first_nonce(&hash, tries) {
-        transcript::Search::Found(nonce) => {
+        Some(nonce) => {
             write_signature(t, sk, salt, &a, &b, &hash, nonce, work, sig);
             0
         }
-        transcript::Search::Spent => 5,
+        None => 5,
     }
 }
 

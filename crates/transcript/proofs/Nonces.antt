@@ -3,6 +3,7 @@ use mathlib.Core.Path.{◌≡◌, refl, sym, ap, ◌∙◌}
 use mathlib.Core.Bool.{Bool, true, false}
 use mathlib.Core.List.{List, ◌∷◌}
 use mathlib.Core.Option.{Option, none, some}
+use Rattle.std.specs.Prelude.{Some, None}
 use Prim.Native.Nat.{ℕ, suc, ◌+◌, ◌<◌, ◌≤◌}
 use native.Mathlib.Omega.{arith}
 use borrow.Author.Count.{below_more}
@@ -17,28 +18,27 @@ use Rattle.paper.specs.Symmetric.{selector, for_challenge}
 use Rattle.paper.specs.Challenge.{challenge, passes, first_below}
 use Rattle.paper.proofs.Challenge.{first_more, first_short, first-place}
 use Rattle.transcript.specs.Search.{search_of, number_of_search, nonce_of_search}
-use Rattle.transcript.specs.declared.Search.TheVariants.{Found, Spent}
 use Rattle.transcript.proofs.Inputs.{challenge-flat}
 
 -- ---- the ends of a search in which nothing below n passed
 
 module _ (p : ℕ → Bool) where
-  pub search-found : (t n : ℕ) → n < t → p n ≡ true → ((k : ℕ) → k < n → p k ≡ false) → Found n ≡ search_of (first_below p t)
+  pub search-found : (t n : ℕ) → n < t → p n ≡ true → ((k : ℕ) → k < n → p k ≡ false) → Some n ≡ search_of (first_below p t)
   unfolding search_of
   search-found t n h e m = ap search_of (sym (first_more p (suc n) t n h (first-place p n e m)))
 
-  pub search-spent : (t : ℕ) → ((k : ℕ) → k < t → p k ≡ false) → Spent ≡ search_of (first_below p t)
+  pub search-spent : (t : ℕ) → ((k : ℕ) → k < t → p k ≡ false) → None ≡ search_of (first_below p t)
   unfolding search_of
   search-spent t m = ap search_of (sym (first_short p t m))
 
 -- ---- its answers: each exactly when, and their numbers
 
-pub found_some : (o : Option ℕ) (n : ℕ) → search_of o ≡ Found n → o ≡ some n
+pub found_some : (o : Option ℕ) (n : ℕ) → search_of o ≡ Some n → o ≡ some n
 unfolding search_of
 found_some (some m) n e = let z : m ≡ n = cc in ap some z
 found_some none n e = cc
 
-pub spent-none : (o : Option ℕ) → search_of o ≡ Spent → o ≡ none
+pub spent-none : (o : Option ℕ) → search_of o ≡ None → o ≡ none
 unfolding search_of
 spent-none (some m) e = cc
 spent-none none e = refl

@@ -21,6 +21,6 @@ returns c =
     let b = c.load.ensures ∙ part-all 16 a.salt.now q.1 in
     λ m g.
     signature-written m a.salt.now (part 60 28 a.sk.now) a.com1.now a.com2.now (part 42877 476 a.work.now) a.hash.now _ _ a.sig.now _ _ _ _ _ (bytes_of 4 a.nonce)
-    q.1 q.2 q.3 (length_part 42877 476 a.work.now (omega (arith, q))) (length-bytes_of 4 a.nonce) q.6 g.seed (length_part 60 28 a.sk.now (omega (arith, q)))
+    q.1 q.2 q.3 (length_part 42877 476 a.work.now (omega (arith, q))) (length-bytes_of 4 a.nonce) q.5 g.seed (length_part 60 28 a.sk.now (omega (arith, q)))
     h.ensures (lent 3480 3480 4 refl p.new.out h.new.sig (omega (arith, q, h.auto.sig)) p.auto.out) p.ensures c.sample-c.ensures b
     (c.write_openings.ensures m (subst (λ (t : List ℕ). Openable m t (part 60 28 a.sk.now) a.work.now) (sym b) g))

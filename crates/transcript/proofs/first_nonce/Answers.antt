@@ -6,7 +6,7 @@ use Rattle.transcript.proofs.Nonces.{passing, searching-start, searching-test, s
 use Rattle.transcript.proofs.first_nonce.Goals as goal
 
 pub loop-nonce-init : goal.loop-nonce-init
-loop-nonce-init c = searching-start c.args.hash.now c.args.tries _ c.put_hash.auto.p c.put_hash.ensures
+loop-nonce-init c = searching-start c.args.hash.now c.args.tries _ (omega arith) c.challenge_input-p.ensures
 
 pub loop-nonce-preserved : goal.loop-nonce-preserved
 loop-nonce-preserved c =
