@@ -1,10 +1,13 @@
 -- A column's bytes, and what a substituted byte adds to a mixed column. Assumes nothing.
 use mathlib.Core.Path.{◌≡◌, refl, ap, ap₂, ◌∙◌, sym}
-use mathlib.Core.List.{[], ◌∷◌}
+use mathlib.Core.List.{List, [], ◌∷◌}
 use Prim.Native.Nat.{ℕ, zero, suc, ◌+◌, ◌*◌, ◌/◌, ◌%◌, ◌^◌, ◌<◌}
 use native.Mathlib.Omega.{arith}
 use lib.Dec.{T, eqb, eqb→eq}
 use lib.Bits.{bit_xor}
+use lib.ListN.{get_or}
+use Rattle.std.proofs.lemmas.Nat.{xor_of_8}
+use Rattle.std.specs.Int.{w32, from_le_bytes, to_le_bytes}
 use Rattle.octets.specs.Lists.{bytes_of}
 use Rattle.octets.specs.Xor.{◌⊕◌, xor_b}
 use Rattle.field.specs.Gf.{◌⊗◌, mul_in, shift_add, times_root}
@@ -26,6 +29,21 @@ rows w = four refl refl (omega arith) (omega arith)
 pub word_bytes : (a b c d : ℕ) → a < 256 → b < 256 → c < 256 → d < 256
     → bytes_of 4 (a + b * 256 + c * 65536 + d * 16777216) ≡ a ∷ b ∷ c ∷ d ∷ []
 word_bytes a b c d ha hb hc hd = rows (a + b * 256 + c * 65536 + d * 16777216) ∙ four (omega arith) (omega arith) (omega arith) (omega arith)
+
+-- the column that std makes of four bytes
+pub bytes-column : (a b c d : ℕ) → a < 256 → b < 256 → c < 256 → d < 256
+    → bytes_of 4 (from_le_bytes w32 (a ∷ b ∷ c ∷ d ∷ [])) ≡ a ∷ b ∷ c ∷ d ∷ []
+bytes-column a b c d ha hb hc hd = word_bytes a b c d ha hb hc hd
+
+-- the same of a column w that the code made of the bytes l
+pub made-column : {w a b c d : ℕ} {l : List ℕ} → w ≡ from_le_bytes w32 l → l ≡ a ∷ b ∷ c ∷ d ∷ [] → a < 256 → b < 256 → c < 256 → d < 256
+    → bytes_of 4 w ≡ a ∷ b ∷ c ∷ d ∷ []
+made-column {a} {b} {c} {d} e f ha hb hc hd =
+    ap (bytes_of 4) (e ∙ ap (from_le_bytes w32) f) ∙ bytes-column a b c d ha hb hc hd
+
+-- the four bytes that std makes of a column
+pub column-bytes : (w : ℕ) → to_le_bytes w32 w ≡ bytes_of 4 w
+column-bytes w = four (omega arith) refl refl refl ∙ sym (rows w)
 
 -- the bytes of a sum
 pub bytes-xor : (a b : ℕ) → bytes_of 4 (bit_xor a b) ≡ xor_b (bytes_of 4 a) (bytes_of 4 b)
@@ -58,21 +76,22 @@ module _ (s d : ℕ) (hs : s < 256) (hd : d ≡ times_root 7 0x1b s) where
   three : bit_xor s d ≡ 3 ⊗ s
   three = unfold ◌⊕◌ in ap (bit_xor s) hd ∙ sym (times-three s hs)
 
-  pub spread0 : (i : ℕ) → i ≡ 0 → d ∷ s ∷ s ∷ bit_xor s d ∷ [] ≡ spread i s
-  unfolding spread
-  spread0 i e = four two refl refl three ∙ ap (λ (n : ℕ). spread n s) (sym e)
+  -- row i of the code's four
+  abbrev row : ℕ → List ℕ
+  row i = get_or ((d ∷ s ∷ s ∷ bit_xor s d ∷ []) ∷ (bit_xor s d ∷ d ∷ s ∷ s ∷ []) ∷ (s ∷ bit_xor s d ∷ d ∷ s ∷ []) ∷ (s ∷ s ∷ bit_xor s d ∷ d ∷ []) ∷ []) i []
 
-  pub spread1 : (i : ℕ) → i ≡ 1 → bit_xor s d ∷ d ∷ s ∷ s ∷ [] ≡ spread i s
+  pub row-spread : (i : ℕ) → i < 4 → row i ≡ spread i s
   unfolding spread
-  spread1 i e = four three two refl refl ∙ ap (λ (n : ℕ). spread n s) (sym e)
+  row-spread zero h = four two refl refl three
+  row-spread (suc zero) h = four three two refl refl
+  row-spread (suc (suc zero)) h = four refl three two refl
+  row-spread (suc (suc (suc zero))) h = four refl refl three two
+  row-spread (suc (suc (suc (suc i)))) h = absurd (omega arith)
 
-  pub spread2 : (i : ℕ) → i ≡ 2 → s ∷ bit_xor s d ∷ d ∷ s ∷ [] ≡ spread i s
-  unfolding spread
-  spread2 i e = four refl three two refl ∙ ap (λ (n : ℕ). spread n s) (sym e)
-
-  pub spread3 : (i : ℕ) → (i ≡ 0 → ⊥) → (i ≡ 1 → ⊥) → (i ≡ 2 → ⊥) → s ∷ s ∷ bit_xor s d ∷ d ∷ [] ≡ spread i s
-  unfolding spread
-  spread3 zero h0 h1 h2 = absurd (h0 refl)
-  spread3 (suc zero) h0 h1 h2 = absurd (h1 refl)
-  spread3 (suc (suc zero)) h0 h1 h2 = absurd (h2 refl)
-  spread3 (suc (suc (suc i))) h0 h1 h2 = four refl refl three two
+  -- a row is four bytes
+  pub row-column : (i : ℕ) {w : ℕ} → i < 4 → d < 256 → w ≡ from_le_bytes w32 (row i) → bytes_of 4 w ≡ row i
+  row-column zero h hd f = made-column f refl hd hs hs (xor_of_8 s d hs hd)
+  row-column (suc zero) h hd f = made-column f refl (xor_of_8 s d hs hd) hd hs hs
+  row-column (suc (suc zero)) h hd f = made-column f refl hs (xor_of_8 s d hs hd) hd hs
+  row-column (suc (suc (suc zero))) h hd f = made-column f refl hs hs (xor_of_8 s d hs hd) hd
+  row-column (suc (suc (suc (suc i)))) h hd f = absurd (omega arith)

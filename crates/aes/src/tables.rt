@@ -1,7 +1,10 @@
 // The substitution box of FIPS 197, and the table that the rounds read, made from it.
-ghost use Rattle.std.specs.Prelude.{◌≡◌, [], ◌∷◌, length};
+ghost use Rattle.std.specs.Prelude.{◌≡◌, ◌/◌, ◌%◌, ◌<◌};
 ghost use Rattle.octets.specs.Lists.{bytes_of};
+ghost use Rattle.aes.specs.Sbox.{sbox};
 ghost use Rattle.aes.specs.Words.{spread, Table};
+
+use std::array;
 
 // sbox x at each x: the inverse in K and then the affine map (5.1.1).
 const SBOX: [u8; 256] = [
@@ -23,40 +26,36 @@ const SBOX: [u8; 256] = [
     0x8c, 0xa1, 0x89, 0x0d, 0xbf, 0xe6, 0x42, 0x68, 0x41, 0x99, 0x2d, 0x0f, 0xb0, 0x54, 0xbb, 0x16,
 ];
 
-// The column with the bytes x0, x1, x2, x3. By sums and products, so that four loads of bytes become one of a word.
-pub(crate) fn word(x0: u8, x1: u8, x2: u8, x3: u8) -> u32
-    ensures { bytes_of 4 result ≡ (x0 ∷ x1 ∷ x2 ∷ x3 ∷ []) }
-{
-    (x0 as u32) + (x1 as u32) * 256 + (x2 as u32) * 65536 + (x3 as u32) * 16777216
-}
-
 // What the substituted byte s in row i adds to a mixed column.
 fn entry(i: usize, s: u8) -> u32
+    requires { i < 4 }
     ensures { bytes_of 4 result ≡ spread i s }
 {
     let d = field::times_root(s);
     let e = s ^ d;
-    if i == 0 {
-        return word(d, s, s, e);
-    }
-    if i == 1 {
-        return word(e, d, s, s);
-    }
-    if i == 2 {
-        return word(s, e, d, s);
-    }
-    word(s, s, e, d)
+    let rows = [[d, s, s, e], [e, d, s, s], [s, e, d, s], [s, s, e, d]];
+    u32::from_le_bytes(rows[i])
 }
 
-// Fills t, of 1024 words, with the table: once, to be lent to each call that works with the cipher.
-pub fn fill(t: &mut [u32])
-    requires { length t.old ≡ 1024 }
-    ensures { Table t.new }
+// Entry m of the table.
+fn made(m: usize) -> u32
+    requires { m < 1024 }
+    ensures { bytes_of 4 result ≡ spread (m / 256) (sbox (m % 256)) }
 {
-    let s = SBOX;
-    let mut m: usize = 0;
-    while m < 1024 {
-        t[m] = entry(m / 256, s[m % 256]);
-        m += 1;
+    entry(m / 256, SBOX[m % 256])
+}
+
+// What the rounds and the key schedule read: made once, and lent to each call that works with the cipher.
+#[derive(Drop)]
+pub struct Tables {
+    pub words: [u32; 1024],
+    pub ghost made: { Table words },
+}
+
+impl Tables {
+    pub fn new() -> Tables {
+        Tables {
+            words: array::from_fn(made),
+        }
     }
 }

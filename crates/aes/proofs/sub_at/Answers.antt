@@ -1,7 +1,6 @@
 -- `aes::sub_at` meets its contract: the second byte of an entry of row 0 is the substituted byte itself. Assumes nothing.
-use mathlib.Core.Path.{◌∙◌}
 use Rattle.aes.proofs.Rounds.{sub-law}
 use Rattle.aes.proofs.sub_at.Goals as goal
 
 pub returns : goal.returns
-returns c = c.byte1.ensures ∙ sub-law c.args.t.now c.requires.table c.args.x c.requires.x_bound
+returns c = sub-law c.args.t.now.words c.args.t.now.made c.args.x c.requires

@@ -1,12 +1,12 @@
--- `aes::encrypt_cols` meets its contract: s0 to s9 are the states after each full round. Assumes nothing.
+-- `aes::Tables::encrypt` meets its contract: s0 to s9 are the states after each full round. Assumes nothing.
 use Rattle.aes.specs.Words.{block_of}
 use Rattle.aes.proofs.Rounds.{round-start, round-more, round-end}
-use Rattle.aes.proofs.encrypt_cols.Goals as goal
+use Rattle.aes.proofs.tables.Tables.encrypt.Goals as goal
 
 pub returns : goal.returns
 returns c = let w = c.args.w.now in
     let x = block_of c.args.x in
-    let e0 = round-start w x c.add-s0.ensures c.load.ensures in
+    let e0 = round-start w x c.bitxor-s0.ensures c.load.ensures in
     let e1 = round-more w x 0 c.round-s1.ensures c.load-2.ensures e0 in
     let e2 = round-more w x 1 c.round-s2.ensures c.load-3.ensures e1 in
     let e3 = round-more w x 2 c.round-s3.ensures c.load-4.ensures e2 in
