@@ -5,13 +5,14 @@
 ghost use Rattle.std.specs.Prelude.{◌≡◌, ℕ, ◌+◌, ◌*◌, ◌<◌, length};
 ghost use Rattle.octets.specs.Lists.{part, alike};
 ghost use Rattle.octets.specs.Place.{place};
-ghost use Rattle.aes.specs.Words.{Table};
 ghost use Rattle.seeds.specs.Expanded.{plain_keys};
 ghost use Rattle.paper.specs.Alpha.{r3};
 ghost use Rattle.paper.specs.Challenge.{hidden_in};
 ghost use Rattle.paper.specs.Scheme.{sig_com1, sig_com2, verif_of};
 ghost use Rattle.workspace.specs.Map.{at_hashes, at_alpha0};
 ghost use Rattle.checker.specs.State.{rest_of, Placed, EvaluatedIn, Vectors, Recomputed, com1_of, com2_of};
+
+use aes::Tables;
 
 // ---- BLC.Eval (algorithm 12)
 
@@ -45,9 +46,8 @@ fn keep_values(work: &mut [u8], e: usize, h: [u8; 32], u: [u8; 28], alpha1: &[u8
 }
 
 // Lines 3 to 17 for repetition e.
-fn eval_one(t: &[u32; 1024], sig: &[u8], work: &mut [u8], hidden: u8, e: usize)
-    requires table { Table t.now }
-    requires sig_len { (length sig.now ≡ 3484) × (length work.old ≡ 65536) × (e < 17) }
+fn eval_one(t: &Tables, sig: &[u8], work: &mut [u8], hidden: u8, e: usize)
+    requires { (length sig.now ≡ 3484) × (length work.old ≡ 65536) × (e < 17) }
     ensures { (i : ℕ → ℕ) → i e ≡ hidden → EvaluatedIn sig.now i e work.old → EvaluatedIn sig.now i (e + 1) work.new }
 {
     let s = aes::load(sig, 0);
@@ -72,9 +72,8 @@ fn eval_one(t: &[u32; 1024], sig: &[u8], work: &mut [u8], hidden: u8, e: usize)
     keep_values(work, e, v.hash, v.u, &sig[b..b + 28], r);
 }
 
-fn eval_all(t: &[u32; 1024], sig: &[u8], c: &[u8], work: &mut [u8])
-    requires table { Table t.now }
-    requires sig_len { (length sig.now ≡ 3484) × (length c.now ≡ 19) × (length work.old ≡ 65536) }
+fn eval_all(t: &Tables, sig: &[u8], c: &[u8], work: &mut [u8])
+    requires { (length sig.now ≡ 3484) × (length c.now ≡ 19) × (length work.old ≡ 65536) }
     ensures { EvaluatedIn sig.now (hidden_in c.now) 17 work.new }
 {
     for e in 0..17 {
@@ -83,9 +82,8 @@ fn eval_all(t: &[u32; 1024], sig: &[u8], c: &[u8], work: &mut [u8])
 }
 
 // All repetitions, and whether the first commitment is the one that the signature carries (algorithm 5, lines 7 and 8).
-fn evaluate(t: &[u32; 1024], sig: &[u8], c: &[u8], work: &mut [u8]) -> bool
-    requires table { Table t.now }
-    requires sig_len { (length sig.now ≡ 3484) × (length c.now ≡ 19) × (length work.old ≡ 65536) }
+fn evaluate(t: &Tables, sig: &[u8], c: &[u8], work: &mut [u8]) -> bool
+    requires { (length sig.now ≡ 3484) × (length c.now ≡ 19) × (length work.old ≡ 65536) }
     ensures holds { EvaluatedIn sig.now (hidden_in c.now) 17 work.new }
     ensures same { result ≡ alike (com1_of sig.now (hidden_in c.now)) (sig_com1 r3 sig.now) }
 {
@@ -98,8 +96,7 @@ fn evaluate(t: &[u32; 1024], sig: &[u8], c: &[u8], work: &mut [u8]) -> bool
 // ---- RecomputePAlpha (algorithm 8)
 
 // Packed equation i at all points: v_z added in column i.
-fn recompute_one(t: &[u32; 1024], pk: &[u8], work: &mut [u8], i: usize)
-    requires table { Table t.now }
+fn recompute_one(t: &Tables, pk: &[u8], work: &mut [u8], i: usize)
     requires pk_len { (length pk.now ≡ 60) × (length work.old ≡ 65536) × (i < 28) }
     requires work_value { part 0 18304 work.old ≡ plain_keys }
     ensures keys { part 0 18304 work.new ≡ plain_keys }
@@ -112,8 +109,7 @@ fn recompute_one(t: &[u32; 1024], pk: &[u8], work: &mut [u8], i: usize)
     equations::add_column(&mut work[a..a + 476], i, z);
 }
 
-fn recompute_all(t: &[u32; 1024], pk: &[u8], work: &mut [u8])
-    requires table { Table t.now }
+fn recompute_all(t: &Tables, pk: &[u8], work: &mut [u8])
     requires pk_len { (length pk.now ≡ 60) × (length work.old ≡ 65536) }
     requires work_value { part 0 18304 work.old ≡ plain_keys }
     ensures { (x : ℕ → ℕ → ℕ) (p : ℕ → ℕ) (rest v : ℕ → ℕ → ℕ) → Vectors x p v → Recomputed pk.now x p rest v 0 work.old → Recomputed pk.now x p rest v 28 work.new }
@@ -124,9 +120,8 @@ fn recompute_all(t: &[u32; 1024], pk: &[u8], work: &mut [u8])
 }
 
 // The result lines, and whether the second commitment is the one that the signature carries (algorithm 5, lines 9 to 11).
-fn recompute(t: &[u32; 1024], pk: &[u8], sig: &[u8], work: &mut [u8]) -> bool
-    requires table { Table t.now }
-    requires pk_len { (length pk.now ≡ 60) × (length sig.now ≡ 3484) × (length work.old ≡ 65536) }
+fn recompute(t: &Tables, pk: &[u8], sig: &[u8], work: &mut [u8]) -> bool
+    requires { (length pk.now ≡ 60) × (length sig.now ≡ 3484) × (length work.old ≡ 65536) }
     ensures { (i : ℕ → ℕ) → EvaluatedIn sig.now i 17 work.old → result ≡ alike (com2_of pk.now sig.now i) (sig_com2 r3 sig.now) }
 {
     let v = workspace::at_vectors();
@@ -150,8 +145,7 @@ pub fn verify(pk: &[u8], msg: &[u8], sig: &[u8], work: &mut [u8]) -> bool
     if !transcript::passes(&c) {
         return false;
     }
-    let mut t = [0u32; 1024];
-    aes::tables::fill(&mut t);
+        let t = Tables::new();
     if !evaluate(&t, sig, &c, work) {
         return false;
     }

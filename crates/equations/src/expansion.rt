@@ -1,12 +1,12 @@
 // ExpandEquations (algorithm 2), one packed equation at a time.
 ghost use Rattle.std.specs.Prelude.{◌≡◌, ◌<◌, length};
-ghost use Rattle.aes.specs.Words.{block_of, Table};
+ghost use Rattle.aes.specs.Words.{block_of};
 ghost use Rattle.paper.specs.Keys.{seed_eq, rows};
 ghost use Rattle.paper.specs.Symmetric.{prg};
 ghost use Rattle.octets.specs.Lists.{zero16};
 ghost use Rattle.seeds.specs.Expanded.{plain_keys};
 
-use aes::Cols;
+use aes::{Cols, Tables};
 
 // seed_eq[i] (line 4).
 fn seed(mseed: &[u8], i: usize) -> Cols
@@ -23,9 +23,8 @@ fn seed(mseed: &[u8], i: usize) -> Cols
 }
 
 // PRG (0, 0, s) of 1652 bytes (line 5): 103 whole blocks, and four bytes of the last.
-fn fill(t: &[u32; 1024], keys: &[u8], s: Cols) -> [u8; 1652]
-    requires table { Table t.now }
-    requires keys_value { keys.now ≡ plain_keys }
+fn fill(t: &Tables, keys: &[u8], s: Cols) -> [u8; 1652]
+    requires { keys.now ≡ plain_keys }
     ensures { result ≡ prg zero16 0 (block_of s) 1652 }
 {
     let mut q = [0u8; 1652];
@@ -41,8 +40,7 @@ fn fill(t: &[u32; 1024], keys: &[u8], s: Cols) -> [u8; 1652]
 }
 
 // Packed equation i: its rows, and then b.
-pub fn expand(t: &[u32; 1024], keys: &[u8], mseed: &[u8], i: usize) -> [u8; 1652]
-    requires table { Table t.now }
+pub fn expand(t: &Tables, keys: &[u8], mseed: &[u8], i: usize) -> [u8; 1652]
     requires keys_value { keys.now ≡ plain_keys }
     requires mseed_len { (length mseed.now ≡ 32) × (i < 28) }
     ensures { result ≡ rows mseed.now i }

@@ -4,9 +4,8 @@
 #![tactic(auto)]
 
 ghost use Rattle.std.specs.Prelude.{◌≡◌, ◌+◌, ◌≤◌, length};
-ghost use Rattle.aes.specs.Words.{Table};
 
-use aes::Cols;
+use aes::{Cols, Tables};
 use std::io;
 
 fn digit(n: u8) -> u8 {
@@ -30,7 +29,7 @@ fn show(rt: &impl Print, x: &[u8], p: usize) -> io::Result<()>
 }
 
 fn show_block(rt: &impl Print, k: Cols) -> io::Result<()> {
-    let x = aes::to_bytes(k);
+    let x = <[u8; 16]>::from(k);
     show(rt, &x, 0)
 }
 
@@ -55,25 +54,23 @@ fn made(i: u32, n: u32) -> Cols {
         x[j] = (v / 256 % 256) as u8;
         j += 1;
     }
-    aes::from_bytes(x)
+    Cols::from(x)
 }
 
-fn chain(t: &[u32; 1024], i: u32) -> Cols
-    requires { Table t.now }
+fn chain(t: &Tables, i: u32) -> Cols
 {
-    let w = aes::expand(t, made(i, 0));
+    let w = t.expand(made(i, 0));
     let mut s = made(i, 1);
-    s = aes::encrypt_cols(t, &w, s);
+    s = t.encrypt(&w, s);
     let mut n: u32 = 2;
     while n <= 20 {
-        s = aes::encrypt_cols(t, &w, aes::add(s, made(i, n)));
+        s = t.encrypt(&w, s ^ made(i, n));
         n += 1;
     }
     s
 }
 
-fn chains(rt: &impl Print, t: &[u32; 1024]) -> io::Result<()>
-    requires { Table t.now }
+fn chains(rt: &impl Print, t: &Tables) -> io::Result<()>
 {
     let mut i: u32 = 0;
     while i < 12 {
@@ -84,45 +81,38 @@ fn chains(rt: &impl Print, t: &[u32; 1024]) -> io::Result<()>
 }
 
 // Appendix A.1, and appendix B, which has the same key.
-fn appendix_a_b(rt: &impl Print, t: &[u32; 1024]) -> io::Result<()>
-    requires { Table t.now }
+fn appendix_a_b(rt: &impl Print, t: &Tables) -> io::Result<()>
 {
-    let w = aes::expand(
-        t,
-        aes::from_bytes([
+    let w = t.expand(Cols::from([
             0x2b, 0x7e, 0x15, 0x16, 0x28, 0xae, 0xd2, 0xa6, 0xab, 0xf7, 0x15, 0x88, 0x09, 0xcf,
             0x4f, 0x3c,
         ]),
     );
     show_key(rt, &w)?;
-    let x = aes::from_bytes([
+    let x = Cols::from([
         0x32, 0x43, 0xf6, 0xa8, 0x88, 0x5a, 0x30, 0x8d, 0x31, 0x31, 0x98, 0xa2, 0xe0, 0x37, 0x07,
         0x34,
     ]);
-    show_block(rt, aes::encrypt_cols(t, &w, x))
+    show_block(rt, t.encrypt(&w, x))
 }
 
 // Appendix C.1.
-fn appendix_c(rt: &impl Print, t: &[u32; 1024]) -> io::Result<()>
-    requires { Table t.now }
+fn appendix_c(rt: &impl Print, t: &Tables) -> io::Result<()>
 {
-    let w = aes::expand(
-        t,
-        aes::from_bytes([
+    let w = t.expand(Cols::from([
             0x00, 0x01, 0x02, 0x03, 0x04, 0x05, 0x06, 0x07, 0x08, 0x09, 0x0a, 0x0b, 0x0c, 0x0d,
             0x0e, 0x0f,
         ]),
     );
-    let x = aes::from_bytes([
+    let x = Cols::from([
         0x00, 0x11, 0x22, 0x33, 0x44, 0x55, 0x66, 0x77, 0x88, 0x99, 0xaa, 0xbb, 0xcc, 0xdd, 0xee,
         0xff,
     ]);
-    show_block(rt, aes::encrypt_cols(t, &w, x))
+    show_block(rt, t.encrypt(&w, x))
 }
 
 fn main(rt: HostRuntime) -> io::Result<()> {
-    let mut t = [0u32; 1024];
-    aes::tables::fill(&mut t);
+        let t = Tables::new();
     appendix_a_b(&rt, &t)?;
     appendix_c(&rt, &t)?;
     chains(&rt, &t)

@@ -4,16 +4,15 @@
 
 ghost use Rattle.std.specs.Prelude.{◌≡◌, [], ◌+◌, ◌-◌, ◌*◌, ◌^◌, ◌<◌, ◌≤◌, length, get_or};
 ghost use Rattle.octets.specs.Lists.{flat};
-ghost use Rattle.aes.specs.Words.{block_of, Table};
+ghost use Rattle.aes.specs.Words.{block_of};
 ghost use Rattle.tree.specs.Tree.{leaves_of, path_of, rebuild_of, tree_of, tree_path_of};
 ghost use Rattle.ggm.specs.Ggm.{derive_by};
 
-use aes::Cols;
+use aes::{Cols, Tables};
 
 // The left child of a node of layer j.
-fn child(t: &[u32; 1024], keys: &[u8], j: usize, s: Cols) -> Cols
-    requires table { Table t.now }
-    requires keys_len { (length keys.now ≡ 2112) × (1 ≤ j) × (j ≤ 8) }
+fn child(t: &Tables, keys: &[u8], j: usize, s: Cols) -> Cols
+    requires { (length keys.now ≡ 2112) × (1 ≤ j) × (j ≤ 8) }
     ensures { block_of result ≡ derive_by keys.now j (block_of s) }
 {
     seeds::tree_derive(t, keys, j - 1, s)
@@ -28,9 +27,8 @@ fn half(d: usize) -> usize
 }
 
 // Expand, below the node of layer j with seed s: its 2 ^ d leaf seeds.
-pub fn expand(t: &[u32; 1024], keys: &[u8], buf: &mut [u8], s: Cols, d: usize, j: usize)
-    requires table { Table t.now }
-    requires keys_len { (length keys.now ≡ 2112) × (length buf.old ≡ 16 * 2 ^ d) × (1 ≤ j) × (j + d ≤ 8) }
+pub fn expand(t: &Tables, keys: &[u8], buf: &mut [u8], s: Cols, d: usize, j: usize)
+    requires { (length keys.now ≡ 2112) × (length buf.old ≡ 16 * 2 ^ d) × (1 ≤ j) × (j + d ≤ 8) }
     ensures { buf.new ≡ flat (leaves_of (derive_by keys.now) d j (block_of s)) }
 {
     if d == 0 {
@@ -38,7 +36,7 @@ pub fn expand(t: &[u32; 1024], keys: &[u8], buf: &mut [u8], s: Cols, d: usize, j
     } else {
         let h = buf.len() / 2;
         let l = child(t, keys, j, s);
-        let r = aes::add(l, s);
+        let r = l ^ s;
         expand(t, keys, &mut buf[..h], l, d - 1, j + 1);
         expand(t, keys, &mut buf[h..], r, d - 1, j + 1);
     }
@@ -46,7 +44,7 @@ pub fn expand(t: &[u32; 1024], keys: &[u8], buf: &mut [u8], s: Cols, d: usize, j
 
 // Open, below the node of layer j with seed s: the d siblings on the way to the hidden leaf, from the leaf up. Gives that leaf's seed.
 pub fn open_path(
-    t: &[u32; 1024],
+    t: &Tables,
     keys: &[u8],
     path: &mut [u8],
     hidden: usize,
@@ -54,8 +52,7 @@ pub fn open_path(
     d: usize,
     j: usize,
 ) -> Cols
-    requires table { Table t.now }
-    requires keys_len { (length keys.now ≡ 2112) × (length path.old ≡ 16 * d) × (hidden < 2 ^ d) × (1 ≤ j) × (j + d ≤ 8) }
+    requires { (length keys.now ≡ 2112) × (length path.old ≡ 16 * d) × (hidden < 2 ^ d) × (1 ≤ j) × (j + d ≤ 8) }
     ensures siblings { path.new ≡ flat (path_of (derive_by keys.now) d j hidden (block_of s)) }
     ensures leaf { block_of result ≡ get_or (leaves_of (derive_by keys.now) d j (block_of s)) hidden [] }
 {
@@ -64,7 +61,7 @@ pub fn open_path(
     }
     let h = half(d);
     let l = child(t, keys, j, s);
-    let r = aes::add(l, s);
+    let r = l ^ s;
     let at = 16 * (d - 1);
     if hidden < h {
         aes::store(path, at, r);
@@ -77,7 +74,7 @@ pub fn open_path(
 
 // PartiallyExpand, below a node of layer j: the leaf seeds that the sibling path gives, zeros in the place of the hidden leaf.
 pub fn rebuild(
-    t: &[u32; 1024],
+    t: &Tables,
     keys: &[u8],
     buf: &mut [u8],
     hidden: usize,
@@ -85,8 +82,7 @@ pub fn rebuild(
     d: usize,
     j: usize,
 )
-    requires table { Table t.now }
-    requires keys_len { (length keys.now ≡ 2112) × (length buf.old ≡ 16 * 2 ^ d) × (16 * d ≤ length path.now) × (hidden < 2 ^ d) × (j + d ≤ 8) }
+    requires { (length keys.now ≡ 2112) × (length buf.old ≡ 16 * 2 ^ d) × (16 * d ≤ length path.now) × (hidden < 2 ^ d) × (j + d ≤ 8) }
     ensures { buf.new ≡ flat (rebuild_of (derive_by keys.now) d j hidden path.now) }
 {
     if d == 0 {
@@ -106,31 +102,29 @@ pub fn rebuild(
 }
 
 // GGMTree.Expand: the 256 leaf seeds of the tree with root seed r and offset delta.
-pub fn expand_tree(t: &[u32; 1024], keys: &[u8], buf: &mut [u8], r: Cols, delta: Cols)
-    requires table { Table t.now }
-    requires keys_len { (length keys.now ≡ 2112) × (length buf.old ≡ 4096) }
+pub fn expand_tree(t: &Tables, keys: &[u8], buf: &mut [u8], r: Cols, delta: Cols)
+    requires { (length keys.now ≡ 2112) × (length buf.old ≡ 4096) }
     ensures { buf.new ≡ flat (tree_of (derive_by keys.now) 7 (block_of r) (block_of delta)) }
 {
-    let o = aes::add(r, delta);
+    let o = r ^ delta;
     expand(t, keys, &mut buf[..2048], r, 7, 1);
     expand(t, keys, &mut buf[2048..], o, 7, 1);
 }
 
 // GGMTree.Open: the sibling path of the hidden leaf. Gives that leaf's seed.
 pub fn open_tree(
-    t: &[u32; 1024],
+    t: &Tables,
     keys: &[u8],
     path: &mut [u8],
     hidden: usize,
     r: Cols,
     delta: Cols,
 ) -> Cols
-    requires table { Table t.now }
-    requires keys_len { (length keys.now ≡ 2112) × (length path.old ≡ 128) × (hidden < 256) }
+    requires { (length keys.now ≡ 2112) × (length path.old ≡ 128) × (hidden < 256) }
     ensures siblings { path.new ≡ flat (tree_path_of (derive_by keys.now) 7 hidden (block_of r) (block_of delta)) }
     ensures leaf { block_of result ≡ get_or (tree_of (derive_by keys.now) 7 (block_of r) (block_of delta)) hidden [] }
 {
-    let o = aes::add(r, delta);
+    let o = r ^ delta;
     if hidden < 128 {
         aes::store(path, 112, o);
         open_path(t, keys, &mut path[..112], hidden, r, 7, 1)
@@ -141,9 +135,8 @@ pub fn open_tree(
 }
 
 // GGMTree.PartiallyExpand: the 256 leaf seeds that the sibling path gives, zeros in the place of the hidden leaf.
-pub fn rebuild_tree(t: &[u32; 1024], keys: &[u8], buf: &mut [u8], hidden: usize, path: &[u8])
-    requires table { Table t.now }
-    requires keys_len { (length keys.now ≡ 2112) × (length buf.old ≡ 4096) × (length path.now ≡ 128) × (hidden < 256) }
+pub fn rebuild_tree(t: &Tables, keys: &[u8], buf: &mut [u8], hidden: usize, path: &[u8])
+    requires { (length keys.now ≡ 2112) × (length buf.old ≡ 4096) × (length path.now ≡ 128) × (hidden < 256) }
     ensures { buf.new ≡ flat (rebuild_of (derive_by keys.now) 8 0 hidden path.now) }
 {
     rebuild(t, keys, buf, hidden, path, 8, 0);

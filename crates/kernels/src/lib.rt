@@ -3,21 +3,21 @@
 #![tactic(auto)]
 
 ghost use Rattle.std.specs.Prelude.{◌≡◌, ◌%◌, length};
-ghost use Rattle.aes.specs.Words.{Table};
 ghost use Rattle.shake.specs.Shake.{shake128};
 ghost use Rattle.kernels.specs.Kernels.{each_block, Encrypts, dot_or256, AddsScaled};
 
+use aes::Tables;
+
 // The blocks of buf, each under the expanded key w.
-fn each_block(t: &[u32; 1024], w: &[u8], buf: &mut [u8])
-    requires table { Table t.now }
-    requires w_len { (length w.now ≡ 176) × (length buf.old % 16 ≡ 0) }
+fn each_block(t: &Tables, w: &[u8], buf: &mut [u8])
+    requires { (length w.now ≡ 176) × (length buf.old % 16 ≡ 0) }
     ensures { buf.new ≡ each_block w.now buf.old }
 {
     let n = buf.len() / 16;
     let mut i = 0;
     while i < n {
         let x = aes::load(buf, 16 * i);
-        let y = aes::encrypt_cols(t, w, x);
+        let y = t.encrypt(w, x);
         aes::store(buf, 16 * i, y);
         i += 1;
     }
@@ -35,9 +35,8 @@ pub extern "C" fn kernels_encrypt(key: &[u8], buf: &mut [u8]) -> u8
     if buf.len() % 16 != 0 {
         return 1;
     }
-    let mut t = [0u32; 1024];
-    aes::tables::fill(&mut t);
-    let w = aes::expand(&t, aes::load(key, 0));
+        let t = Tables::new();
+    let w = t.expand(aes::load(key, 0));
     each_block(&t, &w, buf);
     0
 }

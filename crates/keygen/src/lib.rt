@@ -4,10 +4,11 @@
 ghost use Rattle.std.specs.Prelude.{◌≡◌, ◌++◌, ℕ, ◌<◌, length};
 ghost use Rattle.octets.specs.Lists.{part};
 ghost use Rattle.algebra.specs.Line.{form, equation_in};
-ghost use Rattle.aes.specs.Words.{Table};
 ghost use Rattle.equations.specs.Put.{Monomials};
 ghost use Rattle.seeds.specs.Expanded.{plain_keys};
 ghost use Rattle.paper.specs.Keys.{drawn, rows, values_at, key_gen};
+
+use aes::Tables;
 
 // x and mseed_eq, laid end to end (line 2).
 fn draw(seed: &[u8]) -> [u8; 60]
@@ -19,9 +20,8 @@ fn draw(seed: &[u8]) -> [u8; 60]
 }
 
 // The value of packed equation i at the solution whose monomials are w (line 5).
-fn value_at(t: &[u32; 1024], keys: &[u8], mseed: &[u8], w: &[u8], i: usize) -> u8
-    requires table { Table t.now }
-    requires keys_value { (keys.now ≡ plain_keys) × (length mseed.now ≡ 32) × (length w.now ≡ 1652) × (i < 28) }
+fn value_at(t: &Tables, keys: &[u8], mseed: &[u8], w: &[u8], i: usize) -> u8
+    requires { (keys.now ≡ plain_keys) × (length mseed.now ≡ 32) × (length w.now ≡ 1652) × (i < 28) }
     ensures { (x : ℕ → ℕ) → Monomials x w.now → result ≡ form 56 (equation_in 56 (rows mseed.now i) 0 0) x }
 {
     let q = equations::expansion::expand(t, keys, mseed, i);
@@ -29,9 +29,8 @@ fn value_at(t: &[u32; 1024], keys: &[u8], mseed: &[u8], w: &[u8], i: usize) -> u
 }
 
 // All values, for k that holds x and mseed_eq.
-fn put_values(t: &[u32; 1024], keys: &[u8], k: &[u8], y: &mut [u8])
-    requires table { Table t.now }
-    requires keys_value { (keys.now ≡ plain_keys) × (length k.now ≡ 60) × (length y.old ≡ 28) }
+fn put_values(t: &Tables, keys: &[u8], k: &[u8], y: &mut [u8])
+    requires { (keys.now ≡ plain_keys) × (length k.now ≡ 60) × (length y.old ≡ 28) }
     ensures { y.new ≡ values_at (part 28 32 k.now) (part 0 28 k.now) }
 {
     let w = equations::monomials(&k[0..28]);
@@ -43,9 +42,8 @@ fn put_values(t: &[u32; 1024], keys: &[u8], k: &[u8], y: &mut [u8])
 }
 
 // pk: mseed_eq, and the values (line 7).
-fn put_public(t: &[u32; 1024], keys: &[u8], k: &[u8], pk: &mut [u8])
-    requires table { Table t.now }
-    requires keys_value { (keys.now ≡ plain_keys) × (length k.now ≡ 60) × (length pk.old ≡ 60) }
+fn put_public(t: &Tables, keys: &[u8], k: &[u8], pk: &mut [u8])
+    requires { (keys.now ≡ plain_keys) × (length k.now ≡ 60) × (length pk.old ≡ 60) }
     ensures { pk.new ≡ part 28 32 k.now ++ values_at (part 28 32 k.now) (part 0 28 k.now) }
 {
     octets::copy(&k[28..60], &mut pk[0..32]);
@@ -67,8 +65,7 @@ pub fn make_keys(seed: &[u8], pk: &mut [u8], sk: &mut [u8], work: &mut [u8])
     ensures public { pk.new ≡ (key_gen seed.now).pk }
     ensures secret { sk.new ≡ (key_gen seed.now).sk }
 {
-    let mut t = [0u32; 1024];
-    aes::tables::fill(&mut t);
+        let t = Tables::new();
     seeds::plain_keys(&t, &mut work[0..18304]);
     let k = draw(seed);
     put_public(&t, &work[0..18304], &k, pk);

@@ -6,14 +6,14 @@ ghost use Rattle.std.specs.Prelude.{◌≡◌, List, ℕ, ◌+◌, ◌*◌, ◌<
 ghost use Rattle.octets.specs.Lists.{vec, part};
 ghost use Rattle.octets.specs.Place.{place};
 ghost use Rattle.algebra.specs.Folding.{point as point_of};
-ghost use Rattle.aes.specs.Words.{block_of, Table};
+ghost use Rattle.aes.specs.Words.{block_of};
 ghost use Rattle.shake.specs.Shake.{shake128};
 ghost use Rattle.paper.specs.Commit.{rseed};
 ghost use Rattle.folding.specs.Rows.{Folds};
 ghost use Rattle.lines.specs.Standing.{com_by, tape_by, leaf_at, grown, rebuilt, coms_by, coms_with, raw_by, Stands};
 ghost use Rattle.lines.specs.Answers.{Committed, Revealed, Evaluated, LinesOf, ValuesOf};
 
-use aes::Cols;
+use aes::{Cols, Tables};
 
 // What BLC.Commit makes of a repetition: hash_ls_com, the lines' coefficients, and the part of the correction that is sent.
 #[derive(Drop)]
@@ -41,9 +41,8 @@ pub fn point(i: u8) -> u8
 }
 
 // SeedCommit (19) of a leaf's seed.
-fn commitment(t: &[u32; 1024], keys: &[u8], s: Cols) -> [u8; 32]
-    requires table { Table t.now }
-    requires keys_len { length keys.now ≡ 2112 }
+fn commitment(t: &Tables, keys: &[u8], s: Cols) -> [u8; 32]
+    requires { length keys.now ≡ 2112 }
     ensures { result ≡ com_by keys.now (block_of s) }
 {
     let a = seeds::tree_derive(t, keys, 7, s);
@@ -55,9 +54,8 @@ fn commitment(t: &[u32; 1024], keys: &[u8], s: Cols) -> [u8; 32]
 }
 
 // A leaf's tape: its seed, and 40 bytes of PRG.
-fn tape(t: &[u32; 1024], keys: &[u8], s: Cols) -> [u8; 56]
-    requires table { Table t.now }
-    requires keys_len { length keys.now ≡ 2112 }
+fn tape(t: &Tables, keys: &[u8], s: Cols) -> [u8; 56]
+    requires { length keys.now ≡ 2112 }
     ensures { result ≡ tape_by keys.now (block_of s) }
 {
     let a = seeds::tree_derive(t, keys, 9, s);
@@ -73,9 +71,8 @@ fn tape(t: &[u32; 1024], keys: &[u8], s: Cols) -> [u8; 56]
 }
 
 // The commitment of leaf i into its place.
-fn commit_leaf(t: &[u32; 1024], keys: &[u8], room: &mut [u8], i: usize)
-    requires table { Table t.now }
-    requires keys_len { (length keys.now ≡ 2112) × (length room.old ≡ 12289) × (i < 256) }
+fn commit_leaf(t: &Tables, keys: &[u8], room: &mut [u8], i: usize)
+    requires { (length keys.now ≡ 2112) × (length room.old ≡ 12289) × (i < 256) }
     ensures { room.new ≡ place (4097 + 32 * i) (com_by keys.now (leaf_at room.old i)) room.old }
 {
     let s = aes::load(room, 16 * i);
@@ -85,9 +82,8 @@ fn commit_leaf(t: &[u32; 1024], keys: &[u8], room: &mut [u8], i: usize)
 }
 
 // The commitments of all leaves, behind Hash_6's selector.
-fn commit_leaves(t: &[u32; 1024], keys: &[u8], room: &mut [u8])
-    requires table { Table t.now }
-    requires keys_len { (length keys.now ≡ 2112) × (length room.old ≡ 12289) }
+fn commit_leaves(t: &Tables, keys: &[u8], room: &mut [u8])
+    requires { (length keys.now ≡ 2112) × (length room.old ≡ 12289) }
     ensures { Stands (part 0 4096 room.old) (coms_by keys.now (part 0 4096 room.old)) room.new }
 {
     room[4096] = seeds::selector(seeds::LEAVES);
@@ -97,9 +93,8 @@ fn commit_leaves(t: &[u32; 1024], keys: &[u8], room: &mut [u8])
 }
 
 // The signer's tree, of root seed r and the solution x.
-fn grow(t: &[u32; 1024], keys: &[u8], r: Cols, x: &[u8], room: &mut [u8])
-    requires table { Table t.now }
-    requires keys_len { (length keys.now ≡ 2112) × (length x.now ≡ 28) × (length room.old ≡ 12289) }
+fn grow(t: &Tables, keys: &[u8], r: Cols, x: &[u8], room: &mut [u8])
+    requires { (length keys.now ≡ 2112) × (length x.now ≡ 28) × (length room.old ≡ 12289) }
     ensures { Stands (grown keys.now (block_of r) x.now) (coms_by keys.now (grown keys.now (block_of r) x.now)) room.new }
 {
     let d = aes::load(x, 0);
@@ -117,9 +112,8 @@ fn put_hidden(room: &mut [u8], hidden: usize, out: &[u8])
 }
 
 // The checker's tree, of the hidden leaf's sibling path and commitment.
-fn rebuild(t: &[u32; 1024], keys: &[u8], hidden: usize, path: &[u8], out: &[u8], room: &mut [u8])
-    requires table { Table t.now }
-    requires keys_len { (length keys.now ≡ 2112) × (hidden < 256) × (length path.now ≡ 128) × (length out.now ≡ 32) × (length room.old ≡ 12289) }
+fn rebuild(t: &Tables, keys: &[u8], hidden: usize, path: &[u8], out: &[u8], room: &mut [u8])
+    requires { (length keys.now ≡ 2112) × (hidden < 256) × (length path.now ≡ 128) × (length out.now ≡ 32) × (length room.old ≡ 12289) }
     ensures { Stands (rebuilt keys.now hidden path.now) (coms_with keys.now (rebuilt keys.now hidden path.now) hidden out.now) room.new }
 {
     ggm::rebuild_tree(t, keys, &mut room[..4096], hidden, path);
@@ -136,9 +130,8 @@ fn leaves_hash(room: &[u8]) -> [u8; 32]
 }
 
 // The tape of leaf i, and zeros for the hidden leaf.
-fn raw(t: &[u32; 1024], keys: &[u8], leaves: &[u8], i: usize, hidden: Option<usize>) -> [u8; 56]
-    requires table { Table t.now }
-    requires keys_len { (length keys.now ≡ 2112) × (length leaves.now ≡ 4096) × (i < 256) }
+fn raw(t: &Tables, keys: &[u8], leaves: &[u8], i: usize, hidden: Option<usize>) -> [u8; 56]
+    requires { (length keys.now ≡ 2112) × (length leaves.now ≡ 4096) × (i < 256) }
     ensures { (b : ℕ) → b < 56 → vec result b ≡ raw_by keys.now leaves.now (unwrap_or hidden 256) i b }
 {
     if hidden == Some(i) {
@@ -149,9 +142,8 @@ fn raw(t: &[u32; 1024], keys: &[u8], leaves: &[u8], i: usize, hidden: Option<usi
 }
 
 // A turn of ComputeFolding (13): the tape of leaf i.
-fn fold_leaf(t: &[u32; 1024], keys: &[u8], leaves: &[u8], i: usize, hidden: Option<usize>, f: &mut [u8])
-    requires table { Table t.now }
-    requires keys_len { (length keys.now ≡ 2112) × (length leaves.now ≡ 4096) × (i < 256) × (length f.old ≡ 504) }
+fn fold_leaf(t: &Tables, keys: &[u8], leaves: &[u8], i: usize, hidden: Option<usize>, f: &mut [u8])
+    requires { (length keys.now ≡ 2112) × (length leaves.now ≡ 4096) × (i < 256) × (length f.old ≡ 504) }
     ensures { Folds f.old (raw_by keys.now leaves.now (unwrap_or hidden 256)) i → Folds f.new (raw_by keys.now leaves.now (unwrap_or hidden 256)) (i + 1) }
 {
     let r = raw(t, keys, leaves, i, hidden);
@@ -160,9 +152,8 @@ fn fold_leaf(t: &[u32; 1024], keys: &[u8], leaves: &[u8], i: usize, hidden: Opti
 }
 
 // ComputeFolding, lines 1 to 5, of all leaves but the hidden one. Where none is hidden, a clause has 256 for it.
-fn fold_leaves(t: &[u32; 1024], keys: &[u8], leaves: &[u8], hidden: Option<usize>) -> [u8; 504]
-    requires table { Table t.now }
-    requires keys_len { (length keys.now ≡ 2112) × (length leaves.now ≡ 4096) }
+fn fold_leaves(t: &Tables, keys: &[u8], leaves: &[u8], hidden: Option<usize>) -> [u8; 504]
+    requires { (length keys.now ≡ 2112) × (length leaves.now ≡ 4096) }
     ensures { Folds result (raw_by keys.now leaves.now (unwrap_or hidden 256)) 256 }
 {
     let mut f = [0u8; 504];
@@ -191,9 +182,8 @@ fn of_folded(h: [u8; 32], f: &[u8], x: &[u8]) -> Lines
 }
 
 // BLC.Commit (10), lines 4 to 15, of the repetition e with root seed r and the solution x.
-pub fn commit(t: &[u32; 1024], salt: Cols, e: usize, r: Cols, x: &[u8], room: &mut [u8]) -> Lines
-    requires table { Table t.now }
-    requires e_bound { (e < 17) × (length x.now ≡ 28) × (length room.old ≡ 12289) }
+pub fn commit(t: &Tables, salt: Cols, e: usize, r: Cols, x: &[u8], room: &mut [u8]) -> Lines
+    requires { (e < 17) × (length x.now ≡ 28) × (length room.old ≡ 12289) }
     ensures { (mseed : List ℕ) → block_of r ≡ rseed mseed e → Committed mseed (block_of salt) x.now e result }
 {
     let keys = seeds::tree_keys(t, salt, e);
@@ -205,7 +195,7 @@ pub fn commit(t: &[u32; 1024], salt: Cols, e: usize, r: Cols, x: &[u8], room: &m
 
 // BLC.Open (11), lines 3 and 4, of the repetition e: the sibling path of the hidden leaf into path. Gives that leaf's commitment.
 pub fn reveal(
-    t: &[u32; 1024],
+    t: &Tables,
     salt: Cols,
     e: usize,
     r: Cols,
@@ -213,8 +203,7 @@ pub fn reveal(
     hidden: usize,
     path: &mut [u8],
 ) -> [u8; 32]
-    requires table { Table t.now }
-    requires e_bound { (e < 17) × (length x.now ≡ 28) × (hidden < 256) × (length path.old ≡ 128) }
+    requires { (e < 17) × (length x.now ≡ 28) × (hidden < 256) × (length path.old ≡ 128) }
     ensures { (mseed : List ℕ) → block_of r ≡ rseed mseed e → Revealed mseed (block_of salt) x.now e hidden path.new result }
 {
     let keys = seeds::tree_keys(t, salt, e);
@@ -240,7 +229,7 @@ fn at_point(h: [u8; 32], f: &[u8], d: &[u8], r: u8) -> Values
 // BLC.Eval (12), lines 3 to 17, of the repetition e, from its parts of an opening: the hidden leaf's sibling path, its commitment, and what was
 // sent of the correction.
 pub fn eval(
-    t: &[u32; 1024],
+    t: &Tables,
     salt: Cols,
     e: usize,
     hidden: u8,
@@ -249,8 +238,7 @@ pub fn eval(
     sent: &[u8],
     room: &mut [u8],
 ) -> Values
-    requires table { Table t.now }
-    requires e_bound { (e < 17) × (length path.now ≡ 128) × (length out.now ≡ 32) × (length sent.now ≡ 12) × (length room.old ≡ 12289) }
+    requires { (e < 17) × (length path.now ≡ 128) × (length out.now ≡ 32) × (length sent.now ≡ 12) × (length room.old ≡ 12289) }
     ensures { (paths outs sents : List ℕ) → path.now ≡ part (128 * e) 128 paths → out.now ≡ part (32 * e) 32 outs → sent.now ≡ part (12 * e) 12 sents → Evaluated (block_of salt) paths outs sents e hidden result }
 {
     let keys = seeds::tree_keys(t, salt, e);

@@ -6,11 +6,11 @@ ghost use Rattle.std.specs.Prelude.{◌≡◌, ◌+◌, ◌*◌, ◌<◌, ◌≤
 ghost use Rattle.octets.specs.Lists.{zero16};
 ghost use Rattle.octets.specs.Place.{place};
 ghost use Rattle.aes.specs.Cipher.{expand_key};
-ghost use Rattle.aes.specs.Words.{block_of, Table};
+ghost use Rattle.aes.specs.Words.{block_of};
 ghost use Rattle.paper.specs.Symmetric.{selector as selector_of, tweak_salt, psi as psi_of, hash as hash_of, prg_block};
 ghost use Rattle.seeds.specs.Expanded.{derive_with, key_at, plain_keys, tree_key, tree_keys};
 
-use aes::Cols;
+use aes::{Cols, Tables};
 
 // Nine selectors of XOF and Hash, then four of TweakSalt.
 const SELECTORS: [u8; 13] = [0, 1, 2, 3, 4, 5, 6, 7, 8, 0, 1, 2, 3];
@@ -80,13 +80,12 @@ pub fn tweak(salt: Cols, purpose: usize, e: usize, j: usize) -> Cols
 }
 
 // The expanded key of TweakSalt.
-pub fn schedule(t: &[u32; 1024], salt: Cols, purpose: usize, e: usize, j: usize) -> [u8; 176]
-    requires table { Table t.now }
-    requires purpose_bound { (purpose < 13) × (e < 64) × (j < 256) }
+pub fn schedule(t: &Tables, salt: Cols, purpose: usize, e: usize, j: usize) -> [u8; 176]
+    requires { (purpose < 13) × (e < 64) × (j < 256) }
     ensures { result ≡ expand_key (tweak_salt (block_of salt) purpose e j) }
 {
     let k = tweak(salt, purpose, e, j);
-    aes::expand(t, k)
+    t.expand(k)
 }
 
 // The orthomorphism, equation (13).
@@ -102,20 +101,18 @@ fn psi(s: Cols) -> Cols
 }
 
 // Encryption with feed-forward under the expanded key w: SeedDerive (18), a half of SeedCommit (19), a block of PRG (20).
-pub fn derive(t: &[u32; 1024], w: &[u8], s: Cols) -> Cols
-    requires table { Table t.now }
-    requires w_len { length w.now ≡ 176 }
+pub fn derive(t: &Tables, w: &[u8], s: Cols) -> Cols
+    requires { length w.now ≡ 176 }
     ensures { block_of result ≡ derive_with w.now (block_of s) }
 {
-    let y = aes::encrypt_cols(t, w, s);
+    let y = t.encrypt(w, s);
     let z = psi(s);
-    aes::add(y, z)
+    y ^ z
 }
 
 // The same under key k of keys that lie end to end.
-fn derive_at(t: &[u32; 1024], keys: &[u8], k: usize, s: Cols) -> Cols
-    requires table { Table t.now }
-    requires k_in_bounds { 176 * k + 176 ≤ length keys.now }
+fn derive_at(t: &Tables, keys: &[u8], k: usize, s: Cols) -> Cols
+    requires { 176 * k + 176 ≤ length keys.now }
     ensures { block_of result ≡ derive_with (key_at keys.now k) (block_of s) }
 {
     let p = 176 * k;
@@ -124,7 +121,7 @@ fn derive_at(t: &[u32; 1024], keys: &[u8], k: usize, s: Cols) -> Cols
 
 // The expanded key of TweakSalt into place k of keys that lie end to end.
 fn put_key(
-    t: &[u32; 1024],
+    t: &Tables,
     salt: Cols,
     purpose: usize,
     e: usize,
@@ -132,7 +129,6 @@ fn put_key(
     k: usize,
     out: &mut [u8],
 )
-    requires table { Table t.now }
     requires purpose_bound { (purpose < 13) × (e < 64) × (j < 256) }
     requires k_in_bounds { 176 * k + 176 ≤ length out.old }
     ensures { out.new ≡ place (176 * k) (expand_key (tweak_salt (block_of salt) purpose e j)) out.old }
@@ -143,9 +139,8 @@ fn put_key(
 }
 
 // The keys of PRG for salt 0 and e 0.
-pub fn plain_keys(t: &[u32; 1024], out: &mut [u8])
-    requires table { Table t.now }
-    requires out_len { length out.old ≡ 18304 }
+pub fn plain_keys(t: &Tables, out: &mut [u8])
+    requires { length out.old ≡ 18304 }
     ensures { out.new ≡ plain_keys }
 {
     let salt = zero();
@@ -157,17 +152,15 @@ pub fn plain_keys(t: &[u32; 1024], out: &mut [u8])
 }
 
 // Block i of PRG for salt 0 and e 0.
-pub fn plain_block(t: &[u32; 1024], keys: &[u8], s: Cols, i: usize) -> Cols
-    requires table { Table t.now }
-    requires keys_value { (keys.now ≡ plain_keys) × (i < 104) }
+pub fn plain_block(t: &Tables, keys: &[u8], s: Cols, i: usize) -> Cols
+    requires { (keys.now ≡ plain_keys) × (i < 104) }
     ensures { block_of result ≡ prg_block zero16 0 (block_of s) i }
 {
     derive_at(t, keys, i, s)
 }
 
 // Key k of tree e into its place.
-fn put_tree_key(t: &[u32; 1024], salt: Cols, e: usize, k: usize, out: &mut [u8])
-    requires table { Table t.now }
+fn put_tree_key(t: &Tables, salt: Cols, e: usize, k: usize, out: &mut [u8])
     requires e_bound { (e < 17) × (k < 12) }
     requires out_len { length out.old ≡ 2112 }
     ensures { out.new ≡ place (176 * k) (tree_key (block_of salt) e k) out.old }
@@ -176,8 +169,7 @@ fn put_tree_key(t: &[u32; 1024], salt: Cols, e: usize, k: usize, out: &mut [u8])
 }
 
 // The twelve keys of tree e, written to out.
-pub fn write_tree_keys(t: &[u32; 1024], salt: Cols, e: usize, out: &mut [u8])
-    requires table { Table t.now }
+pub fn write_tree_keys(t: &Tables, salt: Cols, e: usize, out: &mut [u8])
     requires e_bound { e < 17 }
     requires out_len { length out.old ≡ 2112 }
     ensures { out.new ≡ tree_keys (block_of salt) e }
@@ -190,9 +182,8 @@ pub fn write_tree_keys(t: &[u32; 1024], salt: Cols, e: usize, out: &mut [u8])
 }
 
 // The same, by value.
-pub fn tree_keys(t: &[u32; 1024], salt: Cols, e: usize) -> [u8; 2112]
-    requires table { Table t.now }
-    requires e_bound { e < 17 }
+pub fn tree_keys(t: &Tables, salt: Cols, e: usize) -> [u8; 2112]
+    requires { e < 17 }
     ensures { result ≡ tree_keys (block_of salt) e }
 {
     let mut w = [0u8; 2112];
@@ -201,9 +192,8 @@ pub fn tree_keys(t: &[u32; 1024], salt: Cols, e: usize) -> [u8; 2112]
 }
 
 // SeedDerive, a half of SeedCommit or a block of PRG, under key k of a tree's twelve.
-pub fn tree_derive(t: &[u32; 1024], keys: &[u8], k: usize, s: Cols) -> Cols
-    requires table { Table t.now }
-    requires keys_len { (length keys.now ≡ 2112) × (k < 12) }
+pub fn tree_derive(t: &Tables, keys: &[u8], k: usize, s: Cols) -> Cols
+    requires { (length keys.now ≡ 2112) × (k < 12) }
     ensures { block_of result ≡ derive_with (key_at keys.now k) (block_of s) }
 {
     derive_at(t, keys, k, s)

@@ -4,7 +4,7 @@
 ghost use Rattle.std.specs.Prelude.{◌≡◌, List, ◌++◌, Bool, ℕ, ◌+◌, ◌*◌, ◌<◌, ◌≤◌, length};
 ghost use Rattle.octets.specs.Lists.{part, joined, bytes_of};
 ghost use Rattle.octets.specs.Place.{place};
-ghost use Rattle.aes.specs.Words.{block_of, Table};
+ghost use Rattle.aes.specs.Words.{block_of};
 ghost use Rattle.paper.specs.Keys.{solution_of};
 ghost use Rattle.paper.specs.Commit.{rseed};
 ghost use Rattle.paper.specs.Challenge.{challenge, hidden_in};
@@ -13,15 +13,14 @@ ghost use Rattle.workspace.specs.Map.{at_hashes, at_sent, at_alpha0, at_alpha1, 
 ghost use Rattle.signer.specs.State.{Within, Committed, Adds, AddsAll, Prepared};
 ghost use Rattle.signer.specs.Written.{Openable, opening_at, openings, signature_of, Answers, Signed};
 
-use aes::Cols;
+use aes::{Cols, Tables};
 use lines::Lines;
 
 // ---- BLC.Commit (algorithm 10)
 
 // rseed[e] at its place.
-fn put_root(t: &[u32; 1024], work: &mut [u8], m: Cols, e: usize)
-    requires table { Table t.now }
-    requires work_len { (length work.old ≡ 65536) × (part 0 18304 work.old ≡ plain_keys) × (e < 17) }
+fn put_root(t: &Tables, work: &mut [u8], m: Cols, e: usize)
+    requires { (length work.old ≡ 65536) × (part 0 18304 work.old ≡ plain_keys) × (e < 17) }
     ensures { work.new ≡ place (at_roots + 16 * e) (rseed (block_of m) e) work.old }
 {
     let v = workspace::at_vectors();
@@ -29,9 +28,8 @@ fn put_root(t: &[u32; 1024], work: &mut [u8], m: Cols, e: usize)
     aes::store(work, workspace::ROOTS + 16 * e, r);
 }
 
-fn put_roots(t: &[u32; 1024], work: &mut [u8], m: Cols)
-    requires table { Table t.now }
-    requires work_len { (length work.old ≡ 65536) × (part 0 18304 work.old ≡ plain_keys) }
+fn put_roots(t: &Tables, work: &mut [u8], m: Cols)
+    requires { (length work.old ≡ 65536) × (part 0 18304 work.old ≡ plain_keys) }
     ensures { work.new ≡ place at_roots (joined 17 (rseed (block_of m))) work.old }
 {
     for e in 0..17 {
@@ -51,9 +49,8 @@ fn keep_lines(work: &mut [u8], e: usize, l: Lines)
     octets::put(&l.correction, work, workspace::SENT + 12 * e);
 }
 
-fn commit_one(t: &[u32; 1024], x: &[u8], salt: Cols, work: &mut [u8], e: usize)
-    requires table { Table t.now }
-    requires x_len { (length x.now ≡ 28) × (length work.old ≡ 65536) × (e < 17) }
+fn commit_one(t: &Tables, x: &[u8], salt: Cols, work: &mut [u8], e: usize)
+    requires { (length x.now ≡ 28) × (length work.old ≡ 65536) × (e < 17) }
     ensures keys { Within 18304 25049 work.old work.new }
     ensures adds { (m : List ℕ) → Committed m (block_of salt) x.now e work.old → Committed m (block_of salt) x.now (e + 1) work.new }
 {
@@ -65,9 +62,8 @@ fn commit_one(t: &[u32; 1024], x: &[u8], salt: Cols, work: &mut [u8], e: usize)
     keep_lines(work, e, l);
 }
 
-fn commit_all(t: &[u32; 1024], x: &[u8], salt: Cols, work: &mut [u8])
-    requires table { Table t.now }
-    requires x_len { (length x.now ≡ 28) × (length work.old ≡ 65536) }
+fn commit_all(t: &Tables, x: &[u8], salt: Cols, work: &mut [u8])
+    requires { (length x.now ≡ 28) × (length work.old ≡ 65536) }
     ensures keys { Within 18304 25049 work.old work.new }
     ensures adds { (m : List ℕ) → Committed m (block_of salt) x.now 0 work.old → Committed m (block_of salt) x.now 17 work.new }
 {
@@ -76,9 +72,8 @@ fn commit_all(t: &[u32; 1024], x: &[u8], salt: Cols, work: &mut [u8])
     }
 }
 
-fn commit(t: &[u32; 1024], x: &[u8], salt: &[u8], mseed: &[u8], work: &mut [u8])
-    requires table { Table t.now }
-    requires x_len { (length x.now ≡ 28) × (length salt.now ≡ 16) × (length mseed.now ≡ 16) × (length work.old ≡ 65536) }
+fn commit(t: &Tables, x: &[u8], salt: &[u8], mseed: &[u8], work: &mut [u8])
+    requires { (length x.now ≡ 28) × (length salt.now ≡ 16) × (length mseed.now ≡ 16) × (length work.old ≡ 65536) }
     ensures keys { part 0 18304 work.new ≡ plain_keys }
     ensures adds { Committed mseed.now salt.now x.now 17 work.new }
 {
@@ -91,9 +86,8 @@ fn commit(t: &[u32; 1024], x: &[u8], salt: &[u8], mseed: &[u8], work: &mut [u8])
 // ---- ComputePAlpha (algorithm 6), and whether the solution satisfies the equations
 
 // Packed equation i on all lines: z_0 and z_1 added to u_0 and u_1. Gives 0 where the solution satisfies it.
-fn result_one(t: &[u32; 1024], pk: &[u8], work: &mut [u8], i: usize) -> u8
-    requires table { Table t.now }
-    requires pk_len { (length pk.now ≡ 60) × (length work.old ≡ 65536) × (part 0 18304 work.old ≡ plain_keys) × (i < 28) }
+fn result_one(t: &Tables, pk: &[u8], work: &mut [u8], i: usize) -> u8
+    requires { (length pk.now ≡ 60) × (length work.old ≡ 65536) × (part 0 18304 work.old ≡ plain_keys) × (i < 28) }
     ensures rest { Within 42401 952 work.old work.new }
     ensures adds { Adds pk.now i work.old result work.new }
 {
@@ -107,9 +101,8 @@ fn result_one(t: &[u32; 1024], pk: &[u8], work: &mut [u8], i: usize) -> u8
     z.z0[17] ^ pk[32 + i]
 }
 
-fn results(t: &[u32; 1024], pk: &[u8], work: &mut [u8]) -> bool
-    requires table { Table t.now }
-    requires pk_len { (length pk.now ≡ 60) × (length work.old ≡ 65536) × (part 0 18304 work.old ≡ plain_keys) }
+fn results(t: &Tables, pk: &[u8], work: &mut [u8]) -> bool
+    requires { (length pk.now ≡ 60) × (length work.old ≡ 65536) × (part 0 18304 work.old ≡ plain_keys) }
     ensures rest { Within 42401 952 work.old work.new }
     ensures adds { AddsAll pk.now work.old result work.new }
 {
@@ -121,9 +114,8 @@ fn results(t: &[u32; 1024], pk: &[u8], work: &mut [u8]) -> bool
 }
 
 // The lines and the solution as vectors, and their result lines.
-fn alphas(t: &[u32; 1024], sk: &[u8], work: &mut [u8]) -> bool
-    requires table { Table t.now }
-    requires sk_len { (length sk.now ≡ 88) × (length work.old ≡ 65536) × (part 0 18304 work.old ≡ plain_keys) }
+fn alphas(t: &Tables, sk: &[u8], work: &mut [u8]) -> bool
+    requires { (length sk.now ≡ 88) × (length work.old ≡ 65536) × (part 0 18304 work.old ≡ plain_keys) }
     ensures { (salt m : List ℕ) → Committed m salt (solution_of sk.now) 17 work.old → Prepared sk.now salt m result work.new }
 {
     let v = workspace::at_vectors();
@@ -132,9 +124,8 @@ fn alphas(t: &[u32; 1024], sk: &[u8], work: &mut [u8]) -> bool
     results(t, &sk[0..60], work)
 }
 
-fn prepare(t: &[u32; 1024], sk: &[u8], salt: &[u8], mseed: &[u8], work: &mut [u8]) -> bool
-    requires table { Table t.now }
-    requires sk_len { (length sk.now ≡ 88) × (length salt.now ≡ 16) × (length mseed.now ≡ 16) × (length work.old ≡ 65536) }
+fn prepare(t: &Tables, sk: &[u8], salt: &[u8], mseed: &[u8], work: &mut [u8]) -> bool
+    requires { (length sk.now ≡ 88) × (length salt.now ≡ 16) × (length mseed.now ≡ 16) × (length work.old ≡ 65536) }
     ensures { Prepared sk.now salt.now mseed.now result work.new }
 {
     commit(t, &sk[60..88], salt, mseed, work);
@@ -145,7 +136,7 @@ fn prepare(t: &[u32; 1024], sk: &[u8], salt: &[u8], mseed: &[u8], work: &mut [u8
 
 // The opening of repetition e, field by field, each in the middle of the signature (algorithm 11).
 fn write_opening(
-    t: &[u32; 1024],
+    t: &Tables,
     x: &[u8],
     salt: Cols,
     hidden: usize,
@@ -153,8 +144,7 @@ fn write_opening(
     sig: &mut [u8],
     e: usize,
 )
-    requires table { Table t.now }
-    requires x_len { (length x.now ≡ 28) × (hidden < 256) × (length work.now ≡ 65536) × (length sig.old ≡ 3484) × (e < 17) }
+    requires { (length x.now ≡ 28) × (hidden < 256) × (length work.now ≡ 65536) × (length sig.old ≡ 3484) × (e < 17) }
     ensures { (m : List ℕ) → Openable m (block_of salt) x.now work.now → sig.new ≡ opening_at m (block_of salt) x.now (λ k. hidden) e sig.old }
 {
     let root = aes::load(work, workspace::ROOTS + 16 * e);
@@ -165,9 +155,8 @@ fn write_opening(
     octets::put(&work[f..f + 12], sig, 3276 + 12 * e);
 }
 
-fn write_openings(t: &[u32; 1024], x: &[u8], salt: Cols, c: &[u8], work: &[u8], sig: &mut [u8])
-    requires table { Table t.now }
-    requires x_len { (length x.now ≡ 28) × (length c.now ≡ 19) × (length work.now ≡ 65536) × (length sig.old ≡ 3484) }
+fn write_openings(t: &Tables, x: &[u8], salt: Cols, c: &[u8], work: &[u8], sig: &mut [u8])
+    requires { (length x.now ≡ 28) × (length c.now ≡ 19) × (length work.now ≡ 65536) × (length sig.old ≡ 3484) }
     ensures { (m : List ℕ) → Openable m (block_of salt) x.now work.now → sig.new ≡ openings m (block_of salt) x.now (hidden_in c.now) 17 sig.old }
 {
     for e in 0..17 {
@@ -189,7 +178,7 @@ fn write_head(salt: &[u8], com1: &[u8], com2: &[u8], work: &[u8], sig: &mut [u8]
 
 // The whole signature, with the nonce that was found.
 fn write_signature(
-    t: &[u32; 1024],
+    t: &Tables,
     sk: &[u8],
     salt: &[u8],
     com1: &[u8],
@@ -199,8 +188,7 @@ fn write_signature(
     work: &[u8],
     sig: &mut [u8],
 )
-    requires table { Table t.now }
-    requires sk_len { (length sk.now ≡ 88) × (length salt.now ≡ 16) × (length com1.now ≡ 32) × (length com2.now ≡ 32) × (length work.now ≡ 65536) × (length sig.old ≡ 3484) }
+    requires { (length sk.now ≡ 88) × (length salt.now ≡ 16) × (length com1.now ≡ 32) × (length com2.now ≡ 32) × (length work.now ≡ 65536) × (length sig.old ≡ 3484) }
     ensures { (m : List ℕ) → Openable m salt.now (solution_of sk.now) work.now → sig.new ≡ signature_of m salt.now (solution_of sk.now) com1.now com2.now (part at_alpha1 476 work.now) (challenge hash.now (bytes_of 4 nonce)) (bytes_of 4 nonce) }
 {
     write_head(salt, com1, com2, work, sig);
@@ -211,7 +199,7 @@ fn write_signature(
 
 // The challenge, and the signature where a nonce is found. The number is 0 or 5.
 fn answer(
-    t: &[u32; 1024],
+    t: &Tables,
     sk: &[u8],
     msg: &[u8],
     salt: &[u8],
@@ -219,8 +207,7 @@ fn answer(
     sig: &mut [u8],
     work: &mut [u8],
 ) -> u8
-    requires table { Table t.now }
-    requires sk_len { (length sk.now ≡ 88) × (length salt.now ≡ 16) × (length sig.old ≡ 3484) × (length work.old ≡ 65536) }
+    requires { (length sk.now ≡ 88) × (length salt.now ≡ 16) × (length sig.old ≡ 3484) × (length work.old ≡ 65536) }
     ensures { (m : List ℕ) (ok : Bool) → length m ≡ 16 → Prepared sk.now salt.now m ok work.old → Answers sk.now msg.now salt.now m tries sig.old result sig.new }
 {
     let a = workspace::first_commitment(work);
@@ -249,8 +236,7 @@ pub fn sign(
     requires { (length sk.now ≡ 88) × (length salt.now ≡ 16) × (length mseed.now ≡ 16) × (length sig.old ≡ 3484) × (length work.old ≡ 65536) }
     ensures { Signed sk.now msg.now salt.now mseed.now tries sig.old result sig.new }
 {
-    let mut t = [0u32; 1024];
-    aes::tables::fill(&mut t);
+        let t = Tables::new();
     if !prepare(&t, sk, salt, mseed, work) {
         return 4;
     }

@@ -16,7 +16,7 @@ recompute_all-requires-clause-work_value c =
     let y = c.spread in
     let f = lent-front v.result 18304 v.ensures k.new.out w (omega (arith, c.requires)) k.auto.out in
     let g = lent v.result at_vectors 10944 v.ensures y.new.vectors _ (omega (arith, c.requires, length-after f)) y.auto.vectors in
-    keys-stand w _ _ _ _ _ _ c.requires.pk_len.2 f g k.ensures
+    keys-stand w _ _ _ _ _ _ c.requires.2 f g k.ensures
 
 pub returns : goal.returns
 unfolding part
@@ -28,8 +28,8 @@ returns c =
     let f = lent-front v.result 18304 v.ensures k.new.out w (omega (arith, c.requires)) k.auto.out in
     let g = lent v.result at_vectors 10944 v.ensures y.new.vectors _ (omega (arith, c.requires, length-after f)) y.auto.vectors in
     let u = c.recompute_all in
-    let lu = u.auto.work ∙ length-masks w _ _ _ _ _ _ c.requires.pk_len.2 f g in
+    let lu = u.auto.work ∙ length-masks w _ _ _ _ _ _ c.requires.2 f g in
     let p = c.put.ensures in
     let b = c.second_commitment-b.ensures.hash in
     λ i o.
-    recompute-same w _ _ _ _ _ _ c.requires.pk_len.2 f g c.args.pk.now c.args.sig.now i c.requires.pk_len.1 o y.ensures _ _ _ _ lu u.ensures p b c.same.ensures
+    recompute-same w _ _ _ _ _ _ c.requires.2 f g c.args.pk.now c.args.sig.now i c.requires.1 o y.ensures _ _ _ _ lu u.ensures p b c.same.ensures

@@ -13,7 +13,7 @@ use Rattle.ggm.specs.Ggm.{derive_by}
 use Rattle.ggm.proofs.+expand.Goals as goal
 
 pub expand-requires : goal.expand-requires
-expand-requires t c = (omega arith, (c.requires.table, (c.requires.keys_len.0, simp length-take (omega (arith, pow-half c.args.d c.if-d-eq0.false)), omega arith, omega arith)))
+expand-requires t c = (omega arith, (c.requires.0, simp length-take (omega (arith, pow-half c.args.d c.if-d-eq0.false)), omega arith, omega arith))
 
 pub expand-requires-else-d-eq0 : goal.expand-requires-else-d-eq0
 expand-requires-else-d-eq0 t c =
@@ -21,7 +21,7 @@ expand-requires-else-d-eq0 t c =
     let xs = c.args.buf.now in
     let w = rest-length xs e.new.buf (length xs / 2) (omega arith) e.auto.buf in
     let p = pow-half c.args.d c.if-d-eq0.false in
-    (omega arith, (c.requires.table, (c.requires.keys_len.0, w ∙ omega arith, omega arith, omega arith)))
+    (omega arith, (c.requires.0, w ∙ omega arith, omega arith, omega arith))
 
 pub returns-then-d-eq0 : goal.returns-then-d-eq0
 returns-then-d-eq0 t c =
@@ -39,4 +39,4 @@ returns-else-d-eq0 t c =
     let h = length xs / 2 in
     let fits : h ≤ length xs = omega arith in
     both xs e.new.buf h fits e.auto.buf e2.new.buf
-    ∙ leaves-join (derive_by c.args.keys.now) c.args.d c.args.j (block_of c.args.s) _ _ _ _ c.if-d-eq0.false c.child-l.ensures c.add-r.ensures e.ensures e2.ensures
+    ∙ leaves-join (derive_by c.args.keys.now) c.args.d c.args.j (block_of c.args.s) _ _ _ _ c.if-d-eq0.false c.child-l.ensures c.bitxor-r.ensures e.ensures e2.ensures

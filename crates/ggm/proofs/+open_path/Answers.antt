@@ -27,7 +27,7 @@ returns-then-d-eq0-clause-leaf t c =
 pub open_path-requires-else-hidden-h : goal.open_path-requires-else-hidden-h
 open_path-requires-else-hidden-h t c =
     let p = pow-half c.args.d c.if-d-eq0.false in
-    (omega arith, (c.requires.table, (c.requires.keys_len.0, simp length-take (omega arith), omega arith, omega arith, omega arith)))
+    (omega arith, (c.requires.0, simp length-take (omega arith), omega arith, omega arith, omega arith))
 
 pub returns-then-hidden-h-clause-siblings : goal.returns-then-hidden-h-clause-siblings
 returns-then-hidden-h-clause-siblings t c =
@@ -38,8 +38,8 @@ returns-then-hidden-h-clause-siblings t c =
     let n = c.half-h.ensures in
     let h = c.if-hidden-h.true in
     let l = c.child-l.ensures in
-    let r = c.add-r.ensures in
-    let k = c.add-r.result in
+    let r = c.bitxor-r.ensures in
+    let k = c.bitxor-r.result in
     let m : length a.path.now ≡ 16 * (a.d - 1) + length (block_of k) = omega (arith, length-block_of k) in
     let p = drop-place (16 * (a.d - 1)) (block_of k) a.path.now c.store.ensures m in
     path-join-left f a.d a.j a.hidden _ (block_of a.s) _ _ _ _ z n h l r e.ensures.siblings p
@@ -64,7 +64,7 @@ returns-else-hidden-h-clause-siblings t c =
     let n = c.half-h.ensures in
     let h = c.if-hidden-h.false in
     let l = c.child-l.ensures in
-    let r = c.add-r.ensures in
+    let r = c.bitxor-r.ensures in
     let k = c.child-l.result in
     let m : length a.path.now ≡ 16 * (a.d - 1) + length (block_of k) = omega (arith, length-block_of k) in
     let p = drop-place (16 * (a.d - 1)) (block_of k) a.path.now c.store-else-hidden-h.ensures m in
@@ -79,5 +79,5 @@ returns-else-hidden-h-clause-leaf t c =
     let n = c.half-h.ensures in
     let h = c.if-hidden-h.false in
     let l = c.child-l.ensures in
-    let r = c.add-r.ensures in
+    let r = c.bitxor-r.ensures in
     leaf-join-right f a.d a.j a.hidden _ (block_of a.s) _ _ _ z n h l r e.ensures.leaf

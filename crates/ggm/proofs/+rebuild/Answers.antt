@@ -12,15 +12,15 @@ use Rattle.ggm.proofs.+rebuild.Goals as goal
 pub rebuild-requires : goal.rebuild-requires
 rebuild-requires t c =
     let p = pow-half c.args.d c.if-d-eq0.false in
-    (omega arith, (c.requires.table, (c.requires.keys_len.0, simp length-take (omega arith), omega arith, omega arith, omega arith)))
+    (omega arith, (c.requires.0, simp length-take (omega arith), omega arith, omega arith, omega arith))
 
-pub expand-requires-clause-keys_len : goal.expand-requires-clause-keys_len
-expand-requires-clause-keys_len t c =
+pub expand-requires : goal.expand-requires
+expand-requires t c =
     let e = c.rebuild in
     let xs = c.args.buf.now in
     let w = rest-length xs e.new.buf (length xs / 2) (omega arith) e.auto.buf in
     let p = pow-half c.args.d c.if-d-eq0.false in
-    (c.requires.keys_len.0, w ∙ omega arith, omega arith, omega arith)
+    (c.requires.0, w ∙ omega arith, omega arith, omega arith)
 
 pub rebuild-requires-else-hidden-h : goal.rebuild-requires-else-hidden-h
 rebuild-requires-else-hidden-h t c =
@@ -28,7 +28,7 @@ rebuild-requires-else-hidden-h t c =
     let xs = c.args.buf.now in
     let w = rest-length xs e.new.buf (length xs / 2) (omega arith) e.auto.buf in
     let p = pow-half c.args.d c.if-d-eq0.false in
-    (omega arith, (c.requires.table, (c.requires.keys_len.0, w ∙ omega arith, omega arith, omega arith, omega arith)))
+    (omega arith, (c.requires.0, w ∙ omega arith, omega arith, omega arith, omega arith))
 
 pub returns-then-d-eq0 : goal.returns-then-d-eq0
 returns-then-d-eq0 t c =
@@ -60,7 +60,7 @@ returns-else-hidden-h t c =
     both xs e.new.buf h fits e.auto.buf e2.new.buf
     ∙ rebuild-join-right (derive_by a.keys.now) a.d a.j a.hidden _ a.path.now _ _ _ c.if-d-eq0.false c.half-h.ensures c.if-hidden-h.false c.load-s.ensures e.ensures e2.ensures
 
-pub expand-requires-else-hidden-h-clause-keys_len : goal.expand-requires-else-hidden-h-clause-keys_len
-expand-requires-else-hidden-h-clause-keys_len t c =
+pub expand-requires-else-hidden-h : goal.expand-requires-else-hidden-h
+expand-requires-else-hidden-h t c =
     let p = pow-half c.args.d c.if-d-eq0.false in
-    (c.requires.keys_len.0, simp length-take (omega arith), omega arith, omega arith)
+    (c.requires.0, simp length-take (omega arith), omega arith, omega arith)

@@ -12,10 +12,10 @@ use Rattle.ggm.proofs.expand_tree.Goals as goal
 pub slice_bounds-expand-end-2 : goal.slice_bounds-expand-end-2
 slice_bounds-expand-end-2 c = simp length-take (omega arith)
 
-pub expand-requires-clause-keys_len : goal.expand-requires-clause-keys_len
-expand-requires-clause-keys_len c =
+pub expand-requires : goal.expand-requires
+expand-requires c =
     let pre = c.requires in
-    (pre.keys_len.0, simp length-take (omega arith), omega arith, omega arith)
+    (pre.0, simp length-take (omega arith), omega arith, omega arith)
 
 pub returns : goal.returns
 returns c =
@@ -25,4 +25,4 @@ returns c =
     let xs = a.buf.now in
     let fits : 2048 ≤ length xs = omega arith in
     both xs e.new.buf 2048 fits e.auto.buf e2.new.buf
-    ∙ tree-join (derive_by a.keys.now) 7 (block_of a.r) (block_of a.delta) _ _ _ c.add-o.ensures e.ensures e2.ensures
+    ∙ tree-join (derive_by a.keys.now) 7 (block_of a.r) (block_of a.delta) _ _ _ c.bitxor-o.ensures e.ensures e2.ensures

@@ -16,7 +16,7 @@ loop-i-preserved c = let a = c.args in
     let p = c.store in (
       omega arith,
       ap length p.ensures ∙ length-place _ _ _ ∙ l.invariant.1,
-      p.ensures ∙ done-turn a.w.now a.buf.now l.i (omega arith) (omega arith) l.invariant.2 (c.encrypt_cols-y.ensures ∙ ap (cipher a.w.now) c.load-x.ensures),
+      p.ensures ∙ done-turn a.w.now a.buf.now l.i (omega arith) (omega arith) l.invariant.2 (c.encrypt-y.ensures ∙ ap (cipher a.w.now) c.load-x.ensures),
     )
 
 pub returns : goal.returns

@@ -10,8 +10,8 @@ use Rattle.paper.specs.Keys.{values_at, key_gen}
 use borrow.Author.Rules.{rules}
 use Rattle.keygen.proofs.make_keys.Goals as goal
 
-pub put_public-requires-clause-keys_value : goal.put_public-requires-clause-keys_value
-put_public-requires-clause-keys_value c =
+pub put_public-requires : goal.put_public-requires
+put_public-requires c =
     let e = c.plain_keys.ensures in
     (take_at _ _ 18304 (ap length e ∙ length-plain_keys) ∙ e, search rules, search rules)
 

@@ -16,4 +16,4 @@ returns c =
     let e : 4097 + 32 * a.i + 32 - (4097 + 32 * a.i) ≡ 32 = omega arith in
     place-write (4097 + 32 * a.i) _ 32 _ (com_by a.keys.now (part (16 * a.i) 16 a.room.now)) a.room.now a.room.now
     (c.copy_from_slice.ensures.after ∙ c.commitment-c.ensures ∙ ap (com_by a.keys.now) c.load-s.ensures)
-    refl (length-com_by _ _ c.requires.keys_len.0 (length_part (16 * a.i) 16 a.room.now (omega arith))) e (omega arith)
+    refl (length-com_by _ _ c.requires.0 (length_part (16 * a.i) 16 a.room.now (omega arith))) e (omega arith)

@@ -11,8 +11,8 @@ use Rattle.lines.proofs.eval.Goals as goal
 pub slice_bounds-fold_leaves-end-3 : goal.slice_bounds-fold_leaves-end-3
 slice_bounds-fold_leaves-end-3 c = simp length-take (omega (arith, c.rebuild.ensures.long))
 
-pub fold_leaves-f-requires-clause-keys_len : goal.fold_leaves-f-requires-clause-keys_len
-fold_leaves-f-requires-clause-keys_len c = (search rules, simp length-take (omega (arith, c.rebuild.ensures.long)))
+pub fold_leaves-f-requires : goal.fold_leaves-f-requires
+fold_leaves-f-requires c = (search rules, simp length-take (omega (arith, c.rebuild.ensures.long)))
 
 pub returns : goal.returns
 unfolding part
@@ -22,5 +22,5 @@ returns c =
     let f = c.fold_leaves-f in
     let lf : length f.result ≡ 504 = search rules in
     λ paths outs sents pf of sf.
-    evaluated (block_of a.salt) paths outs sents a.e a.hidden k.result k.ensures a.path.now a.out.now a.sent.now c.requires.e_bound.1 c.requires.e_bound.3 pf of sf _ f.result _
+    evaluated (block_of a.salt) paths outs sents a.e a.hidden k.result k.ensures a.path.now a.out.now a.sent.now c.requires.1 c.requires.3 pf of sf _ f.result _
     c.rebuild.ensures c.leaves_hash-h.ensures lf f.ensures _ _ c.point.ensures c.at_point.ensures

@@ -9,10 +9,10 @@ use Rattle.lines.proofs.grow.Goals as goal
 pub slice_bounds-expand_tree-end-2 : goal.slice_bounds-expand_tree-end-2
 slice_bounds-expand_tree-end-2 c = simp length-take (omega arith)
 
-pub expand_tree-requires-clause-keys_len : goal.expand_tree-requires-clause-keys_len
-expand_tree-requires-clause-keys_len c =
+pub expand_tree-requires : goal.expand_tree-requires
+expand_tree-requires c =
     let pre = c.requires in
-    (pre.keys_len.0, simp length-take (omega arith))
+    (pre.0, simp length-take (omega arith))
 
 pub returns : goal.returns
 returns c =

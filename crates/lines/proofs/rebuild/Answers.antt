@@ -9,15 +9,15 @@ use Rattle.lines.proofs.rebuild.Goals as goal
 pub slice_bounds-rebuild_tree-end-2 : goal.slice_bounds-rebuild_tree-end-2
 slice_bounds-rebuild_tree-end-2 c = simp length-take (omega arith)
 
-pub rebuild_tree-requires-clause-keys_len : goal.rebuild_tree-requires-clause-keys_len
-rebuild_tree-requires-clause-keys_len c =
+pub rebuild_tree-requires : goal.rebuild_tree-requires
+rebuild_tree-requires c =
     let pre = c.requires in
-    (pre.keys_len.0, simp length-take (omega arith), pre.keys_len.2, pre.keys_len.1)
+    (pre.0, simp length-take (omega arith), pre.2, pre.1)
 
 pub returns : goal.returns
 returns c =
     let a = c.args in
     let e = c.rebuild_tree in
-    stands-hidden a.keys.now (rebuilt a.keys.now a.hidden a.path.now) a.hidden a.out.now _ _ c.requires.keys_len.0 c.requires.keys_len.1 c.requires.keys_len.3
+    stands-hidden a.keys.now (rebuilt a.keys.now a.hidden a.path.now) a.hidden a.out.now _ _ c.requires.0 c.requires.1 c.requires.3
     (stands-front a.keys.now _ _ _ _ (e.auto.buf ∙ simp length-take (omega arith)) e.ensures c.commit_leaves.ensures)
     c.put_hidden.ensures

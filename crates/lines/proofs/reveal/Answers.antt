@@ -9,5 +9,5 @@ returns c =
     let k = c.tree_keys-keys in
     let o = c.open_tree-s in
     λ mseed from. revealed mseed (block_of c.args.salt) c.args.x.now c.args.e k.result k.ensures
-    (block_of c.args.r) (length-block_of c.args.r) c.requires.e_bound.1 from c.args.hidden _ _ (block_of o.result) _
+    (block_of c.args.r) (length-block_of c.args.r) c.requires.1 from c.args.hidden _ _ (block_of o.result) _
     c.load-d.ensures o.ensures.siblings o.ensures.leaf c.commitment.ensures

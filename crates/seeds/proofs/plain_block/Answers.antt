@@ -10,11 +10,11 @@ use Rattle.seeds.proofs.Keys.{length-plain_keys}
 use Rattle.seeds.proofs.Routines.{plain-block}
 use Rattle.seeds.proofs.plain_block.Goals as goal
 
-pub derive_at-requires-clause-k_in_bounds : goal.derive_at-requires-clause-k_in_bounds
-derive_at-requires-clause-k_in_bounds c =
-    let k = c.requires.keys_value.0 in
+pub derive_at-requires : goal.derive_at-requires
+derive_at-requires c =
+    let k = c.requires.0 in
     let l : length c.args.keys.now ≡ 18304 = ap length k ∙ length-plain_keys in
     omega arith
 
 pub returns : goal.returns
-returns c = c.derive_at.ensures ∙ ap (λ (l : List ℕ). derive_with (key_at l c.args.i) (block_of c.args.s)) c.requires.keys_value.0 ∙ plain-block (block_of c.args.s) c.args.i c.requires.keys_value.1
+returns c = c.derive_at.ensures ∙ ap (λ (l : List ℕ). derive_with (key_at l c.args.i) (block_of c.args.s)) c.requires.0 ∙ plain-block (block_of c.args.s) c.args.i c.requires.1

@@ -9,9 +9,9 @@ use Rattle.workspace.proofs.Lent.{length-after, lent}
 use Rattle.signer.proofs.ResultLines.{length_both, keys-stay, all-prepared}
 use Rattle.signer.proofs.alphas.Goals as goal
 
-pub results-requires-clause-pk_len : goal.results-requires-clause-pk_len
+pub results-requires : goal.results-requires
 unfolding part
-results-requires-clause-pk_len c =
+results-requires c =
     let w = c.args.work.now in
     let v = c.at_vectors-v in
     let p = c.put_solution in
@@ -19,8 +19,8 @@ results-requires-clause-pk_len c =
     let g = lent v.result at_vectors 10944 v.ensures p.new.vectors w (omega (arith, c.requires)) p.auto.vectors in
     let h = lent v.result at_vectors 10944 v.ensures k.new.vectors _ (omega (arith, c.requires, length-after g)) k.auto.vectors in (
       length_part 0 60 c.args.sk.now (omega (arith, c.requires)),
-      length_both w _ _ _ _ _ _ c.requires.sk_len.1 g h,
-      keys-stay w _ _ _ _ _ _ c.requires.sk_len.1 g h ∙ c.requires.sk_len.2,
+      length_both w _ _ _ _ _ _ c.requires.1 g h,
+      keys-stay w _ _ _ _ _ _ c.requires.1 g h ∙ c.requires.2,
     )
 
 pub returns : goal.returns
@@ -33,4 +33,4 @@ returns c =
     let g = lent v.result at_vectors 10944 v.ensures p.new.vectors w (omega (arith, c.requires)) p.auto.vectors in
     let h = lent v.result at_vectors 10944 v.ensures k.new.vectors _ (omega (arith, c.requires, length-after g)) k.auto.vectors in
     let r = c.results.ensures in
-    λ salt m d. all-prepared w _ _ _ _ _ _ c.requires.sk_len.1 g h c.args.sk.now _ _ p.ensures k.ensures r.rest r.adds salt m d
+    λ salt m d. all-prepared w _ _ _ _ _ _ c.requires.1 g h c.args.sk.now _ _ p.ensures k.ensures r.rest r.adds salt m d

@@ -13,7 +13,7 @@ returns-in-Some c =
     let h = c.fiat_shamir-hash in
     λ m ok hm p.
     found-answers a.sk.now a.msg.now a.salt.now m a.work.now ok f.result g.result h.result f.new.work g.new.work _ _ a.tries
-    c.requires.sk_len.0 hm c.requires.sk_len.3 p f.ensures.hash f.ensures.rest g.ensures.hash g.ensures.rest h.ensures
+    c.requires.0 hm c.requires.3 p f.ensures.hash f.ensures.rest g.ensures.hash g.ensures.rest h.ensures
     _ a.sig.now _ c.in-Some.ensures
     c.write_signature.ensures
 
@@ -26,5 +26,5 @@ returns-in-None c =
     let h = c.fiat_shamir-hash in
     λ m ok hm p.
     spent-answers a.sk.now a.msg.now a.salt.now m a.work.now ok f.result g.result h.result f.new.work g.new.work _ _ a.tries
-    c.requires.sk_len.0 hm c.requires.sk_len.3 p f.ensures.hash f.ensures.rest g.ensures.hash g.ensures.rest h.ensures
+    c.requires.0 hm c.requires.3 p f.ensures.hash f.ensures.rest g.ensures.hash g.ensures.rest h.ensures
     a.sig.now c.in-None.ensures

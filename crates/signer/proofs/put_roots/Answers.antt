@@ -12,12 +12,12 @@ use Rattle.signer.proofs.put_roots.Goals as goal
 pub loop-e-init : goal.loop-e-init
 loop-e-init c = roots-none (block_of c.args.m) c.args.work.now
 
-pub put_root-requires-clause-work_len : goal.put_root-requires-clause-work_len
-put_root-requires-clause-work_len c =
+pub put_root-requires : goal.put_root-requires
+put_root-requires c =
     let l = c.loop-e in
     let w = c.args.work.now in (
-      l.auto.work ∙ c.requires.work_len.0,
-      ap (part 0 18304) l.invariant ∙ part-before 0 18304 at_roots (joined l.e (rseed (block_of c.args.m))) w (omega arith) (omega arith) ∙ c.requires.work_len.1,
+      l.auto.work ∙ c.requires.0,
+      ap (part 0 18304) l.invariant ∙ part-before 0 18304 at_roots (joined l.e (rseed (block_of c.args.m))) w (omega arith) (omega arith) ∙ c.requires.1,
       omega arith,
     )
 

@@ -15,7 +15,7 @@ pub returns : goal.returns
 unfolding part solution_of
 returns c =
     let a = c.args in
-    let q = c.requires.sk_len in
+    let q = c.requires in
     let h = c.write_head in
     let p = c.put_nonce in
     let b = c.load.ensures ∙ part-all 16 a.salt.now q.1 in
