@@ -13,7 +13,6 @@ ghost use Rattle.aes.specs.Cipher.{sub_bytes, shift_rows, mix_column, mix_column
 ghost use Rattle.aes.specs.Words.{block_of, NextKey};
 
 use std::ops::BitXor;
-
 pub use tables::Tables;
 
 // A block as its four columns, each with its first byte lowest.

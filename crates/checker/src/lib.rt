@@ -145,7 +145,7 @@ pub fn verify(pk: &[u8], msg: &[u8], sig: &[u8], work: &mut [u8]) -> bool
     if !transcript::passes(&c) {
         return false;
     }
-        let t = Tables::new();
+    let t = Tables::new();
     if !evaluate(&t, sig, &c, work) {
         return false;
     }

@@ -57,8 +57,7 @@ fn made(i: u32, n: u32) -> Cols {
     Cols::from(x)
 }
 
-fn chain(t: &Tables, i: u32) -> Cols
-{
+fn chain(t: &Tables, i: u32) -> Cols {
     let w = t.expand(made(i, 0));
     let mut s = made(i, 1);
     s = t.encrypt(&w, s);
@@ -70,8 +69,7 @@ fn chain(t: &Tables, i: u32) -> Cols
     s
 }
 
-fn chains(rt: &impl Print, t: &Tables) -> io::Result<()>
-{
+fn chains(rt: &impl Print, t: &Tables) -> io::Result<()> {
     let mut i: u32 = 0;
     while i < 12 {
         show_block(rt, chain(t, i))?;
@@ -81,13 +79,11 @@ fn chains(rt: &impl Print, t: &Tables) -> io::Result<()>
 }
 
 // Appendix A.1, and appendix B, which has the same key.
-fn appendix_a_b(rt: &impl Print, t: &Tables) -> io::Result<()>
-{
+fn appendix_a_b(rt: &impl Print, t: &Tables) -> io::Result<()> {
     let w = t.expand(Cols::from([
-            0x2b, 0x7e, 0x15, 0x16, 0x28, 0xae, 0xd2, 0xa6, 0xab, 0xf7, 0x15, 0x88, 0x09, 0xcf,
-            0x4f, 0x3c,
-        ]),
-    );
+        0x2b, 0x7e, 0x15, 0x16, 0x28, 0xae, 0xd2, 0xa6, 0xab, 0xf7, 0x15, 0x88, 0x09, 0xcf, 0x4f,
+        0x3c,
+    ]));
     show_key(rt, &w)?;
     let x = Cols::from([
         0x32, 0x43, 0xf6, 0xa8, 0x88, 0x5a, 0x30, 0x8d, 0x31, 0x31, 0x98, 0xa2, 0xe0, 0x37, 0x07,
@@ -97,13 +93,11 @@ fn appendix_a_b(rt: &impl Print, t: &Tables) -> io::Result<()>
 }
 
 // Appendix C.1.
-fn appendix_c(rt: &impl Print, t: &Tables) -> io::Result<()>
-{
+fn appendix_c(rt: &impl Print, t: &Tables) -> io::Result<()> {
     let w = t.expand(Cols::from([
-            0x00, 0x01, 0x02, 0x03, 0x04, 0x05, 0x06, 0x07, 0x08, 0x09, 0x0a, 0x0b, 0x0c, 0x0d,
-            0x0e, 0x0f,
-        ]),
-    );
+        0x00, 0x01, 0x02, 0x03, 0x04, 0x05, 0x06, 0x07, 0x08, 0x09, 0x0a, 0x0b, 0x0c, 0x0d, 0x0e,
+        0x0f,
+    ]));
     let x = Cols::from([
         0x00, 0x11, 0x22, 0x33, 0x44, 0x55, 0x66, 0x77, 0x88, 0x99, 0xaa, 0xbb, 0xcc, 0xdd, 0xee,
         0xff,
@@ -112,7 +106,7 @@ fn appendix_c(rt: &impl Print, t: &Tables) -> io::Result<()>
 }
 
 fn main(rt: HostRuntime) -> io::Result<()> {
-        let t = Tables::new();
+    let t = Tables::new();
     appendix_a_b(&rt, &t)?;
     appendix_c(&rt, &t)?;
     chains(&rt, &t)

@@ -35,7 +35,7 @@ pub extern "C" fn kernels_encrypt(key: &[u8], buf: &mut [u8]) -> u8
     if buf.len() % 16 != 0 {
         return 1;
     }
-        let t = Tables::new();
+    let t = Tables::new();
     let w = t.expand(aes::load(key, 0));
     each_block(&t, &w, buf);
     0

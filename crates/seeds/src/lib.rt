@@ -120,15 +120,7 @@ fn derive_at(t: &Tables, keys: &[u8], k: usize, s: Cols) -> Cols
 }
 
 // The expanded key of TweakSalt into place k of keys that lie end to end.
-fn put_key(
-    t: &Tables,
-    salt: Cols,
-    purpose: usize,
-    e: usize,
-    j: usize,
-    k: usize,
-    out: &mut [u8],
-)
+fn put_key(t: &Tables, salt: Cols, purpose: usize, e: usize, j: usize, k: usize, out: &mut [u8])
     requires purpose_bound { (purpose < 13) × (e < 64) × (j < 256) }
     requires k_in_bounds { 176 * k + 176 ≤ length out.old }
     ensures { out.new ≡ place (176 * k) (expand_key (tweak_salt (block_of salt) purpose e j)) out.old }

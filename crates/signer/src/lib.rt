@@ -236,7 +236,7 @@ pub fn sign(
     requires { (length sk.now ≡ 88) × (length salt.now ≡ 16) × (length mseed.now ≡ 16) × (length sig.old ≡ 3484) × (length work.old ≡ 65536) }
     ensures { Signed sk.now msg.now salt.now mseed.now tries sig.old result sig.new }
 {
-        let t = Tables::new();
+    let t = Tables::new();
     if !prepare(&t, sk, salt, mseed, work) {
         return 4;
     }
