@@ -1,3 +1,4 @@
+pub mod Made
 pub mod Put
 pub mod Rows
 pub mod Digits

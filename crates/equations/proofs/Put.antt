@@ -1,16 +1,20 @@
 -- The laws of `Put`: a loop that writes an element a turn, each to its own place. Assumes nothing.
-use mathlib.Core.Path.{◌≡◌, refl, sym, ap, ◌∙◌}
-use mathlib.Core.List.{List}
-use Prim.Native.Nat.{ℕ, ◌+◌, ◌<◌, ◌≤◌}
+use mathlib.Core.Path.{◌≡◌, refl, sym, ap, subst, ◌∙◌}
+use mathlib.Core.Logic.{⊎_elim}
+use mathlib.Core.List.{List, ◌++◌}
+use Prim.Native.Nat.{ℕ, ◌+◌, ◌-◌, ◌<◌, ◌≤◌}
 use native.Mathlib.Omega.{arith}
 use borrow.Author.Count.{below_more}
 use lib.Bits.{bit_xor}
-use lib.ListN.{length, set}
+use lib.ListN.{length, set, take, drop}
 use lib.Seq.{get_or-set_same, get_or-set_other}
+use Rattle.std.proofs.lemmas.Bool.{cases_lt}
 use Rattle.octets.specs.Xor.{◌⊕◌}
 use Rattle.octets.specs.Lists.{vec, tab}
 use Rattle.octets.proofs.Xor.{xor-is-⊕}
 use Rattle.octets.proofs.Tab.{is-tab}
+use Rattle.octets.proofs.Place.{place-back}
+use Rattle.octets.proofs.Frame.{vec-place, vec-place-before, vec-place-after}
 use Rattle.equations.specs.Put.{Put}
 
 pub put-start : (d : List ℕ) (p f : ℕ → ℕ) → Put d 0 p f d
@@ -47,3 +51,17 @@ put_all d n i f e l h put = is-tab n f e l (λ k hk. put.here k (omega arith))
 pub put-end : (d : List ℕ) (i n : ℕ) (p f : ℕ → ℕ) (e : List ℕ) → i ≤ n → n ≤ i → Put d i p f e → Put d n p f e
 put-end d i n p f e h h' put =
     record { here = λ k l. put.here k (omega arith); others = λ j apart. put.others j (λ k l. apart k (omega arith)) }
+
+-- a part of d that was lent, and came back as x
+pub put-part : (a n : ℕ) (f : ℕ → ℕ) (d x : List ℕ) → a + n ≤ length d → length x ≡ n → ((k : ℕ) → k < n → vec x k ≡ f k)
+    → Put d n (λ k. a + k) f (take a d ++ (x ++ drop n (drop a d)))
+put-part a n f d x h e all =
+    subst (Put d n (λ (k : ℕ). a + k) f) (sym (place-back a n x d e h))
+    record {
+      here = λ k l. vec-place a x d k (omega arith) (omega arith) ∙ all k l;
+      others =
+          λ i apart.
+          ⊎_elim (λ l. vec-place-before a x d i l)
+          (λ l. vec-place-after a x d i (⊎_elim (λ u. absurd (apart (i - a) (omega arith) (omega arith))) (λ u. omega arith) (cases_lt i (a + n))))
+          (cases_lt i a);
+    }

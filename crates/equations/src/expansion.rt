@@ -15,7 +15,7 @@ fn seed(mseed: &[u8], i: usize) -> Cols
 {
     let mut p = [0u8; 35];
     p[0] = seeds::selector(seeds::EQUATIONS);
-    octets::copy(mseed, &mut p[1..33]);
+    p[1..33].copy_from_slice(mseed);
     p[33] = (i % 256) as u8;
     let mut s = [0u8; 16];
     shake::xof(&p, &mut s);
@@ -28,11 +28,9 @@ fn fill(t: &Tables, keys: &[u8], s: Cols) -> [u8; 1652]
     ensures { result ≡ prg zero16 0 (block_of s) 1652 }
 {
     let mut q = [0u8; 1652];
-    let mut i: usize = 0;
-    while i < 103 {
+    for i in 0..103 {
         let y = seeds::plain_block(t, keys, s, i);
         aes::store(&mut q, 16 * i, y);
-        i += 1;
     }
     let y = seeds::plain_block(t, keys, s, 103);
     aes::store_word(&mut q, 1648, y.a);

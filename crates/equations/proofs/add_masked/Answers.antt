@@ -8,9 +8,9 @@ use Rattle.equations.proofs.add_masked.Goals as goal
 pub loop-i-preserved : goal.loop-i-preserved
 loop-i-preserved c =
     let l = c.loop-i in
-    (omega arith, simp length-set l.invariant.1, put-add _ _ _ l.i l.r l.invariant.2 (λ k h e. omega arith) _ (omega arith) refl)
+    (simp length-set l.invariant.0, put-add _ _ _ l.i l.t l.invariant.1 (λ k h e. omega arith) _ (omega arith) refl)
 
 pub returns : goal.returns
 returns c =
     let l = c.loop-i in
-    put_all _ 192 l.i _ l.r l.invariant.1 (omega arith) l.invariant.2
+    put_all _ 192 l.i _ l.t l.invariant.0 (omega arith) l.invariant.1

@@ -8,9 +8,9 @@ use Rattle.equations.proofs.add_under.Goals as goal
 pub loop-l-preserved : goal.loop-l-preserved
 loop-l-preserved c =
     let l = c.loop-l in
-    (omega arith, simp length-set l.invariant.1, put-add _ _ _ l.l l.s l.invariant.2 (λ k h e. omega arith) _ (omega arith) refl)
+    (simp length-set l.invariant.0, put-add _ _ _ l.l l.r l.invariant.1 (λ k h e. omega arith) _ (omega arith) refl)
 
 pub returns : goal.returns
 returns c =
     let l = c.loop-l in
-    put_all _ 24 l.l _ l.s l.invariant.1 (omega arith) l.invariant.2
+    put_all _ 24 l.l _ l.r l.invariant.0 (omega arith) l.invariant.1

@@ -10,9 +10,8 @@ use Rattle.equations.proofs.at_points.Goals as goal
 pub loop-j-init : goal.loop-j-init
 loop-j-init c =
     let s = c.args in (
-      omega arith,
       sym row_zero,
-      λ v h. eval-start s.q.now v _ _ s.y (c.scaled-u.ensures v h) (c.add_product-z.ensures v h),
+      λ v h. eval-start s.q.now v _ _ s.y (c.scaled-u.ensures v h) (c.add_product.ensures v h),
     )
 
 pub overflow_add-row-in-loop-j : goal.overflow_add-row-in-loop-j
@@ -25,15 +24,14 @@ pub loop-j-preserved : goal.loop-j-preserved
 loop-j-preserved c =
     let s = c.args in
     let l = c.loop-j in (
-      omega arith,
-      ap (λ (r : ℕ). r + (l.j + 1)) l.invariant.1 ∙ sym (row-turn l.j),
+      ap (λ (r : ℕ). r + (l.j + 1)) l.invariant.0 ∙ sym (row-turn l.j),
       λ v h.
-          eval-turn s.q.now v (of_value s.q.now v s.y) l.z _ _ l.j (l.invariant.2 v h)
-          (c.row_value-t.ensures v h) (c.add_product-a.ensures v h),
+          eval-turn s.q.now v (of_value s.q.now v s.y) l.z _ _ l.j (l.invariant.1 v h)
+          (c.row_value.ensures v h) (c.add_product-in-loop-j.ensures v h),
     )
 
 pub returns : goal.returns
 returns c =
     let s = c.args in
     let l = c.loop-j in
-    λ v h. eval-end s.q.now v l.z s.y l.j (omega arith) (l.invariant.2 v h)
+    λ v h. eval-end s.q.now v l.z s.y l.j (omega arith) (l.invariant.1 v h)

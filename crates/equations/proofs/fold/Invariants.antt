@@ -7,6 +7,3 @@ use Rattle.equations.proofs.fold.Given as goal
 
 abbrev pub invariant-loop-b : goal.invariant-loop-b
 invariant-loop-b l = (l.b ≤ 8) × (l.r ≡ tab 24 (folded_from l.b l.a))
-
-abbrev pub decreases-loop-b : goal.decreases-loop-b
-decreases-loop-b l = l.b

@@ -6,17 +6,19 @@ use lib.ListN.{length-set}
 use Rattle.octets.specs.Xor.{◌⊕◌}
 use Rattle.octets.specs.Lists.{vec}
 use Rattle.octets.proofs.Xor.{xor-is-⊕}
-use Rattle.equations.proofs.Put.{put-turn, put_all}
+use Rattle.field.specs.Gf.{times_root}
+use Rattle.equations.proofs.Put.{put-read, put-turn, put_all}
 use Rattle.equations.proofs.fold_digit.Goals as goal
 
 pub loop-l-preserved : goal.loop-l-preserved
 loop-l-preserved c =
     let l = c.loop-l in
     let s = c.args in
-    let e = xor-is-⊕ _ _ ∙ ap (◌⊕ vec s.a (24 * s.b + l.l)) c.times_root.ensures in
-    (omega arith, simp length-set l.invariant.1, put-turn _ _ _ l.l l.s l.invariant.2 (λ k h q. omega arith) _ (omega arith) e)
+    let kept = put-read _ _ _ l.l l.r l.invariant.1 (λ k h q. omega arith) in
+    let e = xor-is-⊕ _ _ ∙ ap (◌⊕ vec s.a.now (24 * s.b + l.l)) (c.times_root.ensures ∙ ap (times_root 7 0x1b) kept) in
+    (simp length-set l.invariant.0, put-turn _ _ _ l.l l.r l.invariant.1 (λ k h q. omega arith) _ (omega arith) e)
 
 pub returns : goal.returns
 returns c =
     let l = c.loop-l in
-    put_all _ 24 l.l _ l.s l.invariant.1 (omega arith) l.invariant.2
+    put_all _ 24 l.l _ l.r l.invariant.0 (omega arith) l.invariant.1

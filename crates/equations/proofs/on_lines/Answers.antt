@@ -11,7 +11,6 @@ use Rattle.equations.proofs.on_lines.Goals as goal
 pub loop-j-init : goal.loop-j-init
 loop-j-init c =
     let s = c.args in (
-      omega arith,
       sym row_zero,
       λ v h. sofar-zeros 24 (of_row s.q.now v),
       λ v h. sofar-zeros 24 (of_cross s.q.now v),
@@ -27,18 +26,17 @@ pub loop-j-preserved : goal.loop-j-preserved
 loop-j-preserved c =
     let s = c.args in
     let l = c.loop-j in (
-      omega arith,
-      ap (λ (r : ℕ). r + (l.j + 1)) l.invariant.1 ∙ sym (row-turn l.j),
+      ap (λ (r : ℕ). r + (l.j + 1)) l.invariant.0 ∙ sym (row-turn l.j),
       λ v h.
-          eval-turn s.q.now v (λ l. 0) l.z0 _ _ l.j (l.invariant.2 v h)
-          (c.row_value-t.ensures v h) (c.add_product-a.ensures v h),
+          eval-turn s.q.now v (λ l. 0) l.z0 _ _ l.j (l.invariant.1 v h)
+          (c.row_value-t.ensures v h) (c.add_product.ensures v h),
       λ v h.
-          cross-turn s.q.now v (λ l. 0) l.z1 _ _ l.j (l.invariant.3 v h)
-          (c.row_value-t.ensures v h) (c.add_cross-b.ensures v h),
+          cross-turn s.q.now v (λ l. 0) l.z1 _ _ l.j (l.invariant.2 v h)
+          (c.row_value-t.ensures v h) (c.add_cross.ensures v h),
     )
 
 pub returns : goal.returns
 returns c =
     let s = c.args in
     let l = c.loop-j in
-    λ v h. lines_end s.q.now v l.z0 l.z1 l.j (omega arith) (l.invariant.2 v h) (l.invariant.3 v h)
+    λ v h. lines_end s.q.now v l.z0 l.z1 l.j (omega arith) (l.invariant.1 v h) (l.invariant.2 v h)

@@ -1,16 +1,15 @@
 -- `equations::put_lane` meets its contract: before turn k the first k vectors have their lane. Assumes nothing.
 use mathlib.Core.Path.{refl}
 use native.Mathlib.Omega.{arith}
-use lib.ListN.{length-set}
 use Rattle.equations.proofs.Put.{put-turn, put-end}
 use Rattle.equations.proofs.put_lane.Goals as goal
 
 pub loop-k-preserved : goal.loop-k-preserved
 loop-k-preserved c =
     let l = c.loop-k in
-    (omega arith, simp length-set l.invariant.1, put-turn _ _ _ l.k l.vectors l.invariant.2 (λ k h q. omega arith) _ (omega arith) refl)
+    put-turn _ _ _ l.k l.vectors l.invariant (λ k h q. omega arith) _ (omega arith) refl
 
 pub returns : goal.returns
 returns c =
     let l = c.loop-k in
-    put-end _ l.k _ _ _ l.vectors (omega arith) (omega arith) l.invariant.2
+    put-end _ l.k _ _ _ l.vectors (omega arith) (omega arith) l.invariant

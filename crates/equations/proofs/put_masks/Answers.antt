@@ -2,7 +2,6 @@
 use mathlib.Core.Path.{◌≡◌, ap}
 use Prim.Native.Nat.{ℕ, ◌*◌, ◌/◌, ◌%◌, ◌^◌}
 use native.Mathlib.Omega.{arith}
-use lib.ListN.{length-set}
 use Rattle.equations.proofs.Put.{put-turn, put-end}
 use Rattle.equations.specs.Lanes.{lane, mask_of}
 use Rattle.equations.proofs.put_masks.Goals as goal
@@ -12,11 +11,11 @@ unfolding mask_of
 loop-l-preserved c =
     let l = c.loop-l in
     let s = c.args in
-    let kept : lane l.vectors s.k l.l ≡ lane s.vectors.now s.k l.l = l.invariant.2.others _ (λ k h q. omega arith) in
+    let kept : lane l.vectors s.k l.l ≡ lane s.vectors.now s.k l.l = l.invariant.others _ (λ k h q. omega arith) in
     let e = ap (λ (x : ℕ). x / 2 ^ s.b % 2 * 255) kept in
-    (omega arith, simp length-set l.invariant.1, put-turn _ _ _ l.l l.vectors l.invariant.2 (λ k h q. omega arith) _ (omega arith) e)
+    put-turn _ _ _ l.l l.vectors l.invariant (λ k h q. omega arith) _ (omega arith) e
 
 pub returns : goal.returns
 returns c =
     let l = c.loop-l in
-    put-end _ l.l _ _ _ l.vectors (omega arith) (omega arith) l.invariant.2
+    put-end _ l.l _ _ _ l.vectors (omega arith) (omega arith) l.invariant

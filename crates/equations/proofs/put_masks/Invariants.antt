@@ -1,13 +1,8 @@
 -- `equations::put_masks` meets its contract: before turn l the first l masks are written. Assumes nothing.
-use mathlib.Core.Path.{◌≡◌}
-use Prim.Native.Nat.{◌+◌, ◌*◌, ◌-◌, ◌≤◌}
-use lib.ListN.{length}
+use Prim.Native.Nat.{◌+◌, ◌*◌}
 use Rattle.equations.specs.Put.{Put}
 use Rattle.equations.specs.Lanes.{lane, mask_of}
 use Rattle.equations.proofs.put_masks.Given as goal
 
 abbrev pub invariant-loop-l : goal.invariant-loop-l
-invariant-loop-l here = (here.l ≤ 24) × (length here.vectors ≡ length here.initial.vectors) × Put here.initial.vectors here.l (λ l. 192 * here.k + 24 * here.b + l) (λ l. mask_of (lane here.initial.vectors here.k l) here.b) here.vectors
-
-abbrev pub decreases-loop-l : goal.decreases-loop-l
-decreases-loop-l l = 24 - l.l
+invariant-loop-l here = Put here.initial.vectors here.l (λ l. 192 * here.k + 24 * here.b + l) (λ l. mask_of (lane here.initial.vectors here.k l) here.b) here.vectors

@@ -1,7 +1,6 @@
 -- `equations::put_row` meets its contract: before turn i the first i products are written. Assumes nothing.
 use mathlib.Core.Path.{◌∙◌}
 use native.Mathlib.Omega.{arith}
-use lib.ListN.{length-set}
 use Rattle.equations.proofs.Put.{put-turn, put-end}
 use Rattle.field.proofs.Field.{⊗-comm}
 use Rattle.equations.proofs.Flat.{row_room}
@@ -18,9 +17,9 @@ loop-i-preserved c =
     let l = c.loop-i in
     let r = row_room c.args.j (omega arith) in
     let e = c.mul.ensures ∙ ⊗-comm _ _ in
-    (omega arith, simp length-set l.invariant.1, put-turn _ _ _ l.i l.w l.invariant.2 (λ k h q. omega arith) _ (omega arith) e)
+    put-turn _ _ _ l.i l.w l.invariant (λ k h q. omega arith) _ (omega arith) e
 
 pub returns : goal.returns
 returns c =
     let l = c.loop-i in
-    put-end _ l.i _ _ _ l.w (omega arith) (omega arith) l.invariant.2
+    put-end _ l.i _ _ _ l.w (omega arith) (omega arith) l.invariant

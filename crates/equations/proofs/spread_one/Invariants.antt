@@ -1,12 +1,7 @@
 -- `equations::spread_one` meets its contract: before digit b the digits above it are spread. Assumes nothing.
-use mathlib.Core.Path.{◌≡◌}
 use Prim.Native.Nat.{◌≤◌}
-use lib.ListN.{length}
 use Rattle.equations.specs.Lanes.{Spread}
 use Rattle.equations.proofs.spread_one.Given as goal
 
 abbrev pub invariant-loop-b : goal.invariant-loop-b
-invariant-loop-b l = (l.b ≤ 8) × (length l.vectors ≡ length l.initial.vectors) × Spread l.initial.vectors l.k l.b l.vectors
-
-abbrev pub decreases-loop-b : goal.decreases-loop-b
-decreases-loop-b l = l.b
+invariant-loop-b l = (l.b ≤ 8) × Spread l.initial.vectors l.k l.b l.vectors

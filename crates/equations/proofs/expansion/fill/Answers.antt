@@ -12,7 +12,7 @@ use Rattle.aes.proofs.Blocks.{length-block_of}
 use Rattle.equations.proofs.expansion.fill.Goals as goal
 
 pub loop-i-init : goal.loop-i-init
-loop-i-init c = (omega arith, refl, part_none 0 16 _ _)
+loop-i-init c = (refl, part_none 0 16 _ _)
 
 pub loop-i-preserved : goal.loop-i-preserved
 loop-i-preserved c =
@@ -20,9 +20,8 @@ loop-i-preserved c =
     let s = c.args.s in
     let y = c.plain_block-y in
     let e = c.store.ensures in (
-      omega arith,
-      ap length e ∙ length-place _ _ _ ∙ l.invariant.1,
-      blocks-turn (block_of s) (length-block_of s) l.q (block_of y.result) l.i (omega arith) l.invariant.1 l.invariant.2 y.ensures e,
+      ap length e ∙ length-place _ _ _ ∙ l.invariant.0,
+      blocks-turn (block_of s) (length-block_of s) l.q (block_of y.result) l.i (omega arith) l.invariant.0 l.invariant.1 y.ensures e,
     )
 
 pub returns : goal.returns
@@ -30,5 +29,5 @@ returns c =
     let l = c.loop-i in
     let s = c.args.s in
     let y = c.plain_block-y-2 in
-    blocks_end (block_of s) (length-block_of s) l.q (block_of y.result) (bytes_of 4 y.result.a) l.i (omega arith) l.invariant.1 l.invariant.2
+    blocks_end (block_of s) (length-block_of s) l.q (block_of y.result) (bytes_of 4 y.result.a) l.i (omega arith) l.invariant.0 l.invariant.1
     y.ensures (first_word y.result) (length-bytes_of 4 y.result.a) c.store_word.ensures

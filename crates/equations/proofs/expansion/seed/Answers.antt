@@ -21,4 +21,4 @@ returns c =
     c.load.ensures ∙ part-all 16 _ (ap length e ∙ length-shake128 _ 16) ∙ e
     ∙ xof-flat for_equations (m ++ bytes_of 2 i) _ 16
     (ap₂ ◌∷◌ c.selector.ensures
-    (seed-input _ m i c.copy.ensures (omega arith) (omega arith)))
+    (seed-input _ m i c.copy_from_slice.ensures.after (omega arith) (omega arith)))
