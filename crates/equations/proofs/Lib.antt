@@ -1,4 +1,3 @@
-pub mod Made
 pub mod Put
 pub mod Rows
 pub mod Digits
