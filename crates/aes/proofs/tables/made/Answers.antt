@@ -1,7 +1,8 @@
--- `aes::tables::made` meets its contract: the table holds the substituted bytes. Assumes nothing.
-use Rattle.std.proofs.Common.{ℕ, ◌/◌, ◌%◌, ◌∙◌, ap}
+-- `aes::tables::made` meets its contract: the code's constant is the table of the rule. Assumes nothing.
+use Rattle.std.proofs.Common.{ℕ, ◌≡◌, ◌/◌, ◌%◌, ◌∙◌, ap}
 use native.Mathlib.Nat.{mod-lt}
 use lib.Dec.{lit<}
+use Rattle.octets.specs.Lists.{vec, bytes_of}
 use Rattle.aes.specs.Words.{spread}
 use Rattle.aes.proofs.Sbox.{table, sbox-rule}
 use Rattle.aes.proofs.tables.made.Goals as goal
@@ -9,4 +10,5 @@ use Rattle.aes.proofs.tables.made.Goals as goal
 pub returns : goal.returns
 unfolding table
 returns c = let m = c.args.m in
-    c.entry.ensures ∙ ap (spread (m / 256)) (sbox-rule (m % 256) (mod-lt m (lit< tt)))
+    let e : bytes_of 4 c.entry.result ≡ spread (m / 256) (vec table (m % 256)) = c.entry.ensures in
+    e ∙ ap (spread (m / 256)) (sbox-rule (m % 256) (mod-lt m (lit< tt)))
