@@ -16,7 +16,7 @@ fn refused(n: usize, i: usize, c: u8, m: usize, number: u8) -> u64
     cell[i] = c;
     let mut out = [0xaau8; 61];
     let before = [0xaau8; 61];
-    let r = cells::read_cell(&cell[..n], &mut out[..m]);
+    let r = cells::number(cells::read_cell(&cell[..n], &mut out[..m]));
     check::expect(r == number);
     check::expect(octets::same(&out, &before));
     1
@@ -32,7 +32,7 @@ fn read(i: usize, c: u8, b: u8) -> u64
     let mut out = [0xaau8; 60];
     let mut key = [0u8; 60];
     key[i / 2] = b;
-    let r = cells::read_cell(&cell, &mut out);
+    let r = cells::number(cells::read_cell(&cell, &mut out));
     check::expect(r == 0);
     check::expect(octets::same(&out, &key));
     1
@@ -46,7 +46,7 @@ fn unwritten(k: usize, m: usize) -> u64
     let key = [0u8; 61];
     let mut out = [0xaau8; 121];
     let before = [0xaau8; 121];
-    let r = cells::write_cell(&key[..k], &mut out[..m]);
+    let r = cells::number(cells::write_cell(&key[..k], &mut out[..m]));
     check::expect(r == 1);
     check::expect(octets::same(&out, &before));
     1
@@ -63,7 +63,7 @@ fn written(i: usize, b: u8, h: u8, l: u8) -> u64
     let mut cell = [b'0'; 120];
     cell[2 * i] = h;
     cell[2 * i + 1] = l;
-    let r = cells::write_cell(&key, &mut out);
+    let r = cells::number(cells::write_cell(&key, &mut out));
     check::expect(r == 0);
     check::expect(octets::same(&out, &cell));
     1
@@ -78,8 +78,8 @@ fn back(a: u8, i: usize, b: u8) -> u64
     key[i] = b;
     let mut cell = [0u8; 120];
     let mut out = [0u8; 60];
-    check::expect(cells::write_cell(&key, &mut cell) == 0);
-    check::expect(cells::read_cell(&cell, &mut out) == 0);
+    check::expect(cells::number(cells::write_cell(&key, &mut cell)) == 0);
+    check::expect(cells::number(cells::read_cell(&cell, &mut out)) == 0);
     check::expect(octets::same(&out, &key));
     1
 }

@@ -1,12 +1,16 @@
 -- The answers of `read_cell` and `write_cell`, by the tests that lead to them. Assumes nothing.
-use mathlib.Core.Path.{◌≡◌, refl, sym, ◌∙◌}
-use mathlib.Core.Bool.{Bool, true, false, and-false}
+use mathlib.Core.Path.{◌≡◌, refl, sym, ap, ◌∙◌}
+use mathlib.Core.Bool.{Bool, true, false, cond, and-false}
 use mathlib.Core.List.{List}
 use Prim.Native.Nat.{ℕ}
 use borrow.Author.Tests.{eq-eqb, ne_eqb, eqb-true, eqb-false}
 use lib.Dec.{eqb}
 use lib.ListN.{length}
+use Rattle.std.specs.Prelude.{Result, Ok, Err}
 use Rattle.octets.specs.Lists.{alike}
+use Rattle.cells.specs.Answer.{number_of}
+use Rattle.cells.specs.declared.Refusal.{Refusal}
+use Rattle.cells.specs.declared.Refusal.TheVariants.{Length, CellLength, Character}
 use Rattle.cells.specs.Cell.{key_length, cell_length, all_hex, read_bytes, write_text, read_number, read_output, write_number, write_output, CellRead, CellWritten}
 
 pub read-1 : {cell out : List ℕ} → (length out ≡ key_length → ⊥) → CellRead cell out 1 out
@@ -48,6 +52,20 @@ write-unique x y = (x.number ∙ sym y.number, x.output ∙ sym y.output)
 
 pub same-unique : (a b : List ℕ) {r r' : Bool} → r ≡ alike a b → r' ≡ alike a b → r ≡ r'
 same-unique a b x y = x ∙ sym y
+
+-- ---- two answers with the same number are the same answer
+
+abbrev answer_of : ℕ → Result (Unit {0}) Refusal
+answer_of n = cond (eqb n 0) (Ok tt) (cond (eqb n 1) (Err Length) (cond (eqb n 7) (Err CellLength) (Err Character)))
+
+answer-number : (x : Result (Unit {0}) Refusal) → answer_of (number_of x) ≡ x
+answer-number (Ok done) = refl
+answer-number (Err Length) = refl
+answer-number (Err CellLength) = refl
+answer-number (Err Character) = refl
+
+pub number-tells : (x y : Result (Unit {0}) Refusal) → number_of x ≡ number_of y → x ≡ y
+number-tells x y e = sym (answer-number x) ∙ ap answer_of e ∙ answer-number y
 
 -- ---- there is no other answer
 

@@ -1,10 +1,11 @@
 -- The laws of the four classes: which bytes are in each, and what the reader makes of them. Assumes nothing.
 use mathlib.Core.Path.{◌≡◌, refl, sym, ap, ◌∙◌}
-use mathlib.Core.Bool.{Bool, true, false, cond, ◌&&◌, ◌||◌, and-false, or-true, true≢false, false≢true}
+use mathlib.Core.Bool.{Bool, true, false, cond, ◌||◌, and-false, or-true, true≢false}
 use Prim.Native.Nat.{ℕ, ◌+◌, ◌-◌, ◌≤◌, ◌<◌}
 use native.Mathlib.Omega.{arith}
 use borrow.Author.Tests.{le-leb, lt-leb, leb-true, lt-ltb, le-ltb, ltb-true, ltb-false}
 use lib.Dec.{leb, ltb, lit<}
+use Rattle.std.proofs.lemmas.Bool.{and_parts}
 use Rattle.cells.specs.Character.{between, class_of, number_in, value_in, is_hex, hex_value}
 use Rattle.cells.specs.Cell.{hex_char}
 use Rattle.cells.specs.declared.Class.{Class}
@@ -24,13 +25,9 @@ pub between-above : (lo hi c : ℕ) → hi < c → between lo hi c ≡ false
 unfolding between
 between-above lo hi c h = rw (lt-leb c hi h) (and-false (leb lo c))
 
-pub and_both : (p q : Bool) → (p && q) ≡ true → (p ≡ true) × (q ≡ true)
-and_both true q e = (refl, e)
-and_both false q e = absurd (false≢true e)
-
 pub between-true : (lo hi c : ℕ) → between lo hi c ≡ true → (lo ≤ c) × (c ≤ hi)
 unfolding between
-between-true lo hi c e = let b = and_both (leb lo c) (leb c hi) e in (leb-true lo c b.0, leb-true c hi b.1)
+between-true lo hi c e = let b = and_parts (leb lo c) (leb c hi) e in (leb-true lo c b.0, leb-true c hi b.1)
 
 -- ---- the class of a byte
 
@@ -46,23 +43,11 @@ pub class-upper : (c : ℕ) → 65 ≤ c → c ≤ 70 → class_of c ≡ Upper (
 unfolding class_of
 class-upper c h k = simp (between-above 48 57 c (omega arith), between-below 97 102 c (omega arith), between_in 65 70 c h k)
 
--- what lies before, between and after the three ranges
+-- what lies before the three ranges
 
 pub class-before : (c : ℕ) → c < 48 → class_of c ≡ Other
 unfolding class_of
 class-before c h = simp (between-below 48 57 c h, between-below 97 102 c (omega arith), between-below 65 70 c (omega arith))
-
-pub class-between : (c : ℕ) → 57 < c → c < 65 → class_of c ≡ Other
-unfolding class_of
-class-between c h k = simp (between-above 48 57 c h, between-below 97 102 c (omega arith), between-below 65 70 c k)
-
-pub class-middle : (c : ℕ) → 70 < c → c < 97 → class_of c ≡ Other
-unfolding class_of
-class-middle c h k = simp (between-above 48 57 c (omega arith), between-below 97 102 c k, between-above 65 70 c h)
-
-pub class-after : (c : ℕ) → 102 < c → class_of c ≡ Other
-unfolding class_of
-class-after c h = simp (between-above 48 57 c (omega arith), between-above 97 102 c h, between-above 65 70 c (omega arith))
 
 -- ---- the classes, case by case
 

@@ -11,7 +11,8 @@ use lib.Seq.{drop-cons}
 use Rattle.octets.specs.Lists.{vec, Bytes}
 use Rattle.cells.specs.Character.{is_hex, hex_value}
 use Rattle.cells.specs.Cell.{all_hex, read_bytes, hex_char, write_text}
-use Rattle.cells.proofs.Character.{hex-of, value_of, class-digit, value-lt, char-reads, char-value, char-plain, plain, lowered, lowered-alike, and_both}
+use Rattle.std.proofs.lemmas.Bool.{and_parts}
+use Rattle.cells.proofs.Character.{hex-of, value_of, class-digit, value-lt, char-reads, char-value, char-plain, plain, lowered, lowered-alike}
 use Rattle.cells.specs.declared.Class.TheVariants.{Digit}
 
 -- ---- a loop that looks at each character
@@ -124,8 +125,8 @@ write-read_bytes zero (x ∷ s) e a = absurd (omega arith)
 write-read_bytes (suc n) [] e a = absurd (omega arith)
 write-read_bytes (suc n) (x ∷ []) e a = absurd (omega arith)
 write-read_bytes (suc n) (h ∷ (l ∷ s)) e a =
-    let p = and_both (is_hex h) (is_hex l && all_hex s) a in
-    let q = and_both (is_hex l) (all_hex s) p.1 in
+    let p = and_parts (is_hex h) (is_hex l && all_hex s) a in
+    let q = and_parts (is_hex l) (all_hex s) p.1 in
     let x : (hex_value h * 16 + hex_value l) / 16 ≡ hex_value h = omega (arith, value-lt h, value-lt l) in
     let y : (hex_value h * 16 + hex_value l) % 16 ≡ hex_value l = omega (arith, value-lt h, value-lt l) in
     rw (x, y, char-value h p.0, char-value l q.0, write-read_bytes n s (omega arith) q.1)

@@ -1,2 +1,3 @@
 pub mod Character
 pub mod Cell
+pub mod Answer

@@ -1,14 +1,48 @@
 // Key cells: the text form of a public key, 120 hexadecimal characters for its 60 bytes.
 #![tactic(auto)]
 
-ghost use Rattle.std.specs.Prelude.{◌≡◌, ◌+◌, ◌*◌, ◌<◌, length};
-ghost use Rattle.octets.specs.Lists.{vec, alike};
+ghost use Rattle.std.specs.Prelude.{◌≡◌, ◌<◌, true, false, MatchOption};
+ghost use Rattle.octets.specs.Lists.{alike};
 ghost use Rattle.cells.specs.Character.{class_of, is_hex, hex_value};
 ghost use Rattle.cells.specs.Cell.{all_hex, read_bytes, hex_char, write_text, CellRead, CellWritten};
+ghost use Rattle.cells.specs.Answer.{number_of, number_of_refusal};
 
 const KEY: usize = 60;
 
 const CELL: usize = 2 * KEY;
+
+/// Why a cell was not read or written. The output is untouched then.
+#[derive(Clone, Copy, Debug, PartialEq, Eq)]
+pub enum Refusal {
+    /// Number 1: the output, or the key that is to be written, has another length.
+    Length,
+    /// Number 7: the cell is not of 120 characters.
+    CellLength,
+    /// Number 8: the cell has 120 characters, and one is no hexadecimal digit (0 to 9, a to f, A to F).
+    Character,
+}
+
+impl From<Refusal> for u8 {
+    ghost from_gives = { λ refusal n. n ≡ number_of_refusal refusal };
+
+    fn from(refusal: Refusal) -> u8 {
+        match refusal {
+            Refusal::Length => 1,
+            Refusal::CellLength => 7,
+            Refusal::Character => 8,
+        }
+    }
+}
+
+/// The number of an answer: 0 where it is done, else the refusal's.
+pub fn number(answer: Result<(), Refusal>) -> u8
+    ensures { result ≡ number_of answer }
+{
+    match answer {
+        Ok(()) => 0,
+        Err(refusal) => u8::from(refusal),
+    }
+}
 
 // The classes of a character: 0 to 9, a to f, A to F, each with the digit's value, and anything else.
 #[derive(Clone, Copy)]
@@ -31,91 +65,46 @@ fn class_of(c: u8) -> Class
     }
 }
 
-#[tactic(auto, unfolding(crate::specs::Character::is_hex))]
-fn is_hex(c: u8) -> bool
-    ensures { result ≡ is_hex c }
+// The value of a hexadecimal digit; of what is no digit there is none.
+#[tactic(auto, unfolding(crate::specs::Character::is_hex, crate::specs::Character::hex_value))]
+fn hex_value(c: u8) -> Option<u8>
+    ensures { MatchOption result (is_hex c ≡ false) (λ v. (is_hex c ≡ true) × (v ≡ hex_value c)) }
 {
     match class_of(c) {
-        Class::Digit(_) => true,
-        Class::Lower(_) => true,
-        Class::Upper(_) => true,
-        Class::Other => false,
+        Class::Digit(v) | Class::Lower(v) | Class::Upper(v) => Some(v),
+        Class::Other => None,
     }
 }
 
-#[tactic(auto, unfolding(crate::specs::Character::hex_value))]
-fn hex_value(c: u8) -> u8
-    ensures { result ≡ hex_value c }
+// Byte i has character 2i as its high half and character 2i + 1 as its low half.
+fn read_bytes(cell: &[u8; CELL]) -> Option<[u8; KEY]>
+    ensures { MatchOption result (all_hex cell.now ≡ false) (λ key. (all_hex cell.now ≡ true) × (key ≡ read_bytes cell.now)) }
 {
-    match class_of(c) {
-        Class::Digit(v) => v,
-        Class::Lower(v) => v,
-        Class::Upper(v) => v,
-        Class::Other => 0,
+    let mut key = [0; KEY];
+    for i in 0..KEY {
+        let high = hex_value(cell[2 * i])?;
+        let low = hex_value(cell[2 * i + 1])?;
+        key[i] = high * 16 + low;
     }
+    Some(key)
 }
 
-fn all_hex(cell: &[u8]) -> bool
-    ensures { result ≡ all_hex cell.now }
-{
-    let mut i = 0;
-    while i < cell.len() {
-        if !is_hex(cell[i]) {
-            return false;
-        }
-        i += 1;
-    }
-    true
-}
-
-// The byte whose high half is character 2i and whose low half is character 2i + 1.
-fn byte_at(cell: &[u8], i: usize) -> u8
-    requires { 2 * i + 1 < length cell.now }
-    ensures { result ≡ hex_value (vec cell.now (2 * i)) * 16 + hex_value (vec cell.now (2 * i + 1)) }
-{
-    let h = hex_value(cell[2 * i]);
-    let l = hex_value(cell[2 * i + 1]);
-    h * 16 + l
-}
-
-fn read_bytes(cell: &[u8], out: &mut [u8])
-    requires { length cell.now ≡ 2 * length out.old }
-    ensures { out.new ≡ read_bytes cell.now }
-{
-    let mut i = 0;
-    while i < out.len() {
-        out[i] = byte_at(cell, i);
-        i += 1;
-    }
-}
-
-// Reads a key cell.
-//
-// cell: the characters of the cell, as they stand in the text. Nothing is cut off and nothing is filled up.
-// out: lent at 60 bytes. With number 0 it holds the public key afterwards, and with any other number it is untouched.
-//
-// The lowest number that applies is given:
-//   1  out is not of 60 bytes
-//   7  the cell is not of 120 characters
-//   8  the cell has 120 characters, and one is no hexadecimal digit (0 to 9, a to f, A to F)
-//   0  done
-//
-// It does not say whether the bytes are a key that key generation makes: 120 zeros are read as 60 zero bytes.
+/// Reads a key cell.
+///
+/// `cell`: the characters of the cell, as they stand in the text. Nothing is cut off and nothing is filled up.
+/// `out`: lent at 60 bytes. It holds the public key afterwards, and after a refusal it is untouched.
+///
+/// Of the refusals that apply, the one with the lowest number is given: `Length`, `CellLength`, `Character`.
+///
+/// It does not say whether the bytes are a key that key generation makes: 120 zeros are read as 60 zero bytes.
 #[tactic(auto, unfolding(crate::specs::Cell::read_number, crate::specs::Cell::read_output))]
-pub fn read_cell(cell: &[u8], out: &mut [u8]) -> u8
-    ensures { CellRead cell.now out.old result out.new }
+pub fn read_cell(cell: &[u8], out: &mut [u8]) -> Result<(), Refusal>
+    ensures { CellRead cell.now out.old (number_of result) out.new }
 {
-    if out.len() != KEY {
-        return 1;
-    }
-    if cell.len() != CELL {
-        return 7;
-    }
-    if !all_hex(cell) {
-        return 8;
-    }
-    read_bytes(cell, out);
-    0
+    let out = out.as_mut_array::<KEY>().ok_or(Refusal::Length)?;
+    let cell = cell.as_array::<CELL>().ok_or(Refusal::CellLength)?;
+    *out = read_bytes(cell).ok_or(Refusal::Character)?;
+    Ok(())
 }
 
 #[tactic(auto, unfolding(crate::specs::Cell::hex_char))]
@@ -126,45 +115,36 @@ fn hex_char(v: u8) -> u8
     if v < 10 { b'0' + v } else { b'a' + (v - 10) }
 }
 
-fn write_text(key: &[u8], out: &mut [u8])
-    requires { length out.old ≡ 2 * length key.now }
-    ensures { out.new ≡ write_text key.now }
+fn write_text(key: &[u8; KEY]) -> [u8; CELL]
+    ensures { result ≡ write_text key.now }
 {
-    let mut i = 0;
-    while i < key.len() {
-        let b = key[i];
-        out[2 * i] = hex_char(b / 16);
-        out[2 * i + 1] = hex_char(b % 16);
-        i += 1;
+    let mut cell = [0; CELL];
+    for (i, &b) in key.iter().enumerate() {
+        cell[2 * i] = hex_char(b / 16);
+        cell[2 * i + 1] = hex_char(b % 16);
     }
+    cell
 }
 
-// Writes the key cell of a public key.
-//
-// key: the 60 bytes of a public key, and any 60 bytes have a cell.
-// out: lent at 120 bytes. With number 0 it holds the cell afterwards, in digits and a to f, two characters to a byte and the high
-// half first. With any other number it is untouched.
-//
-//   1  key is not of 60 bytes, or out is not of 120 bytes
-//   0  done
+/// Writes the key cell of a public key.
+///
+/// `key`: the 60 bytes of a public key, and any 60 bytes have a cell.
+/// `out`: lent at 120 bytes. It holds the cell afterwards, in digits and a to f, two characters to a byte and the high half first.
+/// After a refusal, which is `Length`, it is untouched.
 #[tactic(auto, unfolding(crate::specs::Cell::write_number, crate::specs::Cell::write_output))]
-pub fn write_cell(key: &[u8], out: &mut [u8]) -> u8
-    ensures { CellWritten key.now out.old result out.new }
+pub fn write_cell(key: &[u8], out: &mut [u8]) -> Result<(), Refusal>
+    ensures { CellWritten key.now out.old (number_of result) out.new }
 {
-    if key.len() != KEY {
-        return 1;
-    }
-    if out.len() != CELL {
-        return 1;
-    }
-    write_text(key, out);
-    0
+    let key = key.as_array::<KEY>().ok_or(Refusal::Length)?;
+    let out = out.as_mut_array::<CELL>().ok_or(Refusal::Length)?;
+    *out = write_text(key);
+    Ok(())
 }
 
-// Whether two cells name the same signer, which they do exactly when their texts are equal.
-//
-// a, b: cells of any length, read and not judged: a text that is no key cell equals itself. A cell in upper case and one in lower
-// case are two texts, also where both are read as the same bytes. No number is given.
+/// Whether two cells name the same signer, which they do exactly when their texts are equal.
+///
+/// `a`, `b`: cells of any length, read and not judged: a text that is no key cell equals itself. A cell in upper case and one in lower
+/// case are two texts, also where both are read as the same bytes.
 pub fn same_signer(a: &[u8], b: &[u8]) -> bool
     ensures { result ≡ alike a.now b.now }
 {

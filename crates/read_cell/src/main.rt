@@ -15,7 +15,7 @@ fn main(rt: HostRuntime) {
         return;
     }
     let mut pk = [0u8; 60];
-    let n = cells::read_cell(&cell[..cn], &mut pk);
+    let n = cells::number(cells::read_cell(&cell[..cn], &mut pk));
     if n != 0 {
         files::print_number(&rt, n);
         return;

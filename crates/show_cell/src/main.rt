@@ -11,7 +11,7 @@ fn main(rt: HostRuntime) {
     let k = files::load(&rt, 1, &mut pk);
     let kn = k.n;
     let mut cell = [0u8; 120];
-    let n = cells::write_cell(&pk[..kn], &mut cell);
+    let n = cells::number(cells::write_cell(&pk[..kn], &mut cell));
     if n != 0 {
         files::print_number(&rt, n);
         return;

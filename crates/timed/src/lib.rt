@@ -39,14 +39,14 @@ pub extern "C" fn timed_check(pk: &[u8], msg: &[u8], sig: &[u8], work: &mut [u8]
 pub extern "C" fn timed_read_cell(cell: &[u8], out: &mut [u8]) -> u8
     ensures { CellRead cell.now out.old result out.new }
 {
-    cells::read_cell(cell, out)
+    cells::number(cells::read_cell(cell, out))
 }
 
 #[unsafe(no_mangle)]
 pub extern "C" fn timed_write_cell(key: &[u8], out: &mut [u8]) -> u8
     ensures { CellWritten key.now out.old result out.new }
 {
-    cells::write_cell(key, out)
+    cells::number(cells::write_cell(key, out))
 }
 
 #[unsafe(no_mangle)]

@@ -11,13 +11,13 @@ use Rattle.cell_edges.proofs.back.Goals as goal
 pub expect-requires : goal.expect-requires
 expect-requires c =
     let a = c.args in
-    eq-eqb _ 0 ((write-gives-0 c.write_cell.ensures).1 (length-set (replicate 60 a.a) a.i a.b, refl))
+    eq-eqb _ 0 (c.number.ensures ∙ (write-gives-0 c.write_cell.ensures).1 (length-set (replicate 60 a.a) a.i a.b, refl))
 
 pub expect-requires-2 : goal.expect-requires-2
 expect-requires-2 c =
     let a = c.args in
     let f = bytes-set (replicate 60 a.a) a.i a.b (bytes-replicate 60 a.a (omega arith)) (omega arith) in
-    eq-eqb _ 0 (round_trip f (length-set (replicate 60 a.a) a.i a.b) refl refl c.write_cell.ensures c.read_cell.ensures).1
+    eq-eqb _ 0 (c.number-2.ensures ∙ (round_trip f (length-set (replicate 60 a.a) a.i a.b) refl refl c.write_cell.ensures c.read_cell.ensures).1)
 
 pub expect-requires-3 : goal.expect-requires-3
 expect-requires-3 c =

@@ -10,10 +10,10 @@ use Rattle.cell_edges.proofs.read.Goals as goal
 pub expect-requires : goal.expect-requires
 unfolding but
 expect-requires c =
-    eq-eqb _ 0 (read-unique c.read_cell-r.ensures (read-0 refl (length-set (replicate 120 48) c.args.i c.args.c) c.requires.hex refl)).0
+    eq-eqb _ 0 (c.number-r.ensures ∙ (read-unique c.read_cell.ensures (read-0 refl (length-set (replicate 120 48) c.args.i c.args.c) c.requires.hex refl)).0)
 
 pub expect-requires-2 : goal.expect-requires-2
 unfolding but
 expect-requires-2 c =
-    let u = read-unique c.read_cell-r.ensures (read-0 refl (length-set (replicate 120 48) c.args.i c.args.c) c.requires.hex refl) in
+    let u = read-unique c.read_cell.ensures (read-0 refl (length-set (replicate 120 48) c.args.i c.args.c) c.requires.hex refl) in
     c.same.ensures ∙ alike_of _ _ (u.1 ∙ c.requires.bytes)

@@ -9,9 +9,9 @@ use Rattle.cell_edges.proofs.refused.Goals as goal
 
 pub expect-requires : goal.expect-requires
 unfolding but
-expect-requires c = eq-eqb _ _ (read-number c.args.m (replicate 61 0xaa) c.requires.out-fits c.read_cell-r.ensures c.requires.refused)
+expect-requires c = eq-eqb _ _ (c.number-r.ensures ∙ read-number c.args.m (replicate 61 0xaa) c.requires.out-fits c.read_cell.ensures c.requires.refused)
 
 pub expect-requires-2 : goal.expect-requires-2
 unfolding but
 expect-requires-2 c =
-    c.same.ensures ∙ alike_of _ _ (read_kept c.args.m (replicate 61 0xaa) c.requires.out-fits c.read_cell-r.ensures c.requires.refused c.requires.refusal)
+    c.same.ensures ∙ alike_of _ _ (read_kept c.args.m (replicate 61 0xaa) c.requires.out-fits c.read_cell.ensures c.requires.refused c.requires.refusal)

@@ -7,4 +7,4 @@ use Rattle.cell_edges.proofs.unwritten.Goals as goal
 
 pub expect-requires-2 : goal.expect-requires-2
 expect-requires-2 c =
-    c.same.ensures ∙ alike_of _ _ (write_kept c.args.k (replicate 61 0) c.requires.key_fits c.args.m (replicate 121 0xaa) c.requires.out-fits c.write_cell-r.ensures c.requires.refused)
+    c.same.ensures ∙ alike_of _ _ (write_kept c.args.k (replicate 61 0) c.requires.key_fits c.args.m (replicate 121 0xaa) c.requires.out-fits c.write_cell.ensures c.requires.refused)

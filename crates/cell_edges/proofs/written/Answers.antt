@@ -10,10 +10,10 @@ use Rattle.cell_edges.proofs.written.Goals as goal
 pub expect-requires : goal.expect-requires
 unfolding but
 expect-requires c =
-    eq-eqb _ 0 (write-unique c.write_cell-r.ensures (write-0 (length-set (replicate 60 0) c.args.i c.args.b) refl refl)).0
+    eq-eqb _ 0 (c.number-r.ensures ∙ (write-unique c.write_cell.ensures (write-0 (length-set (replicate 60 0) c.args.i c.args.b) refl refl)).0)
 
 pub expect-requires-2 : goal.expect-requires-2
 unfolding but
 expect-requires-2 c =
-    let u = write-unique c.write_cell-r.ensures (write-0 (length-set (replicate 60 0) c.args.i c.args.b) refl refl) in
+    let u = write-unique c.write_cell.ensures (write-0 (length-set (replicate 60 0) c.args.i c.args.b) refl refl) in
     c.same.ensures ∙ alike_of _ _ (u.1 ∙ c.requires.text)

@@ -1,13 +1,9 @@
--- `cells::read_bytes` meets its contract: before turn i the first i bytes are written. Assumes nothing.
-use mathlib.Core.Path.{◌≡◌}
-use Prim.Native.Nat.{◌≤◌, ◌-◌}
-use lib.ListN.{length}
+-- `cells::read_bytes` meets its contract: before turn i the first i bytes are written, and the first 2i characters are digits. Assumes nothing.
+use Rattle.std.proofs.Common.{◌≡◌, ◌*◌, drop}
 use Rattle.octets.proofs.Write.{written}
-use Rattle.cells.specs.Cell.{read_bytes}
+use Rattle.cells.specs.Cell.{all_hex, read_bytes}
 use Rattle.cells.proofs.read_bytes.Given as goal
 
 abbrev pub invariant-loop-i : goal.invariant-loop-i
-invariant-loop-i l = (l.i ≤ length l.initial.out) × (length l.out ≡ length l.initial.out) × (l.out ≡ written l.initial.out 0 (read_bytes l.cell) l.i)
-
-abbrev pub decreases-loop-i : goal.decreases-loop-i
-decreases-loop-i l = length l.initial.out - l.i
+invariant-loop-i l =
+    (l.key ≡ written l.initial.key 0 (read_bytes l.cell) l.i) × (all_hex l.cell ≡ all_hex (drop (2 * l.i) l.cell))
