@@ -3,6 +3,8 @@
 // with 0 alone. All randomness is an input: a key seed, a salt and a master seed must be drawn anew, at random, for each use.
 #![tactic(auto)]
 
+ghost use Rattle.std.specs.Prelude.{◌≡◌};
+ghost use Rattle.signer.specs.Written.{number_of};
 ghost use Rattle.mqom.specs.Calls.{MakesKeys, SignsMessage, ChecksSignature};
 
 pub mod fields;
@@ -33,6 +35,17 @@ pub fn make_keys(seed: &[u8], pk: &mut [u8], sk: &mut [u8], work: &mut [u8]) -> 
     keygen::make_keys(seed, pk, sk, work);
     octets::clear(work);
     0
+}
+
+// The number of what signing answers.
+fn number(r: Result<(), signer::Refused>) -> u8
+    ensures { result ≡ number_of r }
+{
+    match r {
+        Ok(()) => 0,
+        Err(signer::Refused::Unsatisfied) => 4,
+        Err(signer::Refused::Spent) => 5,
+    }
 }
 
 // Signing.
@@ -86,7 +99,7 @@ pub fn sign(
     }
     let r = signer::sign(sk, msg, salt, mseed, tries, sig, work);
     octets::clear(work);
-    r
+    number(r)
 }
 
 // Checking.

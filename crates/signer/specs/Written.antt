@@ -1,6 +1,6 @@
 -- What the signature holds while it is written (document 001, algorithm 3, lines 11 and 12; algorithm 11), and what signing answers
 -- (document 01). Definitions only.
-use Rattle.std.specs.Prelude.{◌≡◌, true, false, List, ◌++◌, ℕ, ◌+◌, ◌*◌, ◌<◌, length}
+use Rattle.std.specs.Prelude.{◌≡◌, true, false, Result, Ok, Err, List, ◌++◌, ℕ, ◌+◌, ◌*◌, ◌<◌, length}
 use Rattle.std.proofs.Math.Option.{none, some}
 use Rattle.octets.specs.Lists.{part, joined}
 use Rattle.octets.specs.Place.{place}
@@ -10,6 +10,8 @@ use Rattle.paper.specs.Alpha.{r3}
 use Rattle.paper.specs.Challenge.{hidden_in}
 use Rattle.paper.specs.Scheme.{sign_of}
 use Rattle.workspace.specs.Map.{at_sent, at_roots}
+use Rattle.signer.specs.declared.Refused.{Refused}
+use Rattle.signer.specs.declared.Refused.TheVariants.{Unsatisfied, Spent}
 
 -- the workspace has what the openings are made of
 pub record Openable (mseed salt x work : List ℕ) : Type 0 where
@@ -33,6 +35,12 @@ module _ (mseed salt x : List ℕ) (i : ℕ → ℕ) where
 -- the signature of its parts, with the leaves of challenge c hidden
 unfoldable pub signature_of : List ℕ → List ℕ → List ℕ → List ℕ → List ℕ → List ℕ → List ℕ → List ℕ → List ℕ
 signature_of mseed salt x c1 c2 a1 c nonce = salt ++ c1 ++ c2 ++ a1 ++ opening 28 mseed salt x (hidden_in c) ++ nonce
+
+-- document 01's number of each case
+abbrev pub number_of : Result (Unit {0}) Refused → ℕ
+number_of (Ok u) = 0
+number_of (Err Unsatisfied) = 4
+number_of (Err Spent) = 5
 
 -- the number, and the signature buffer afterwards, of a solution that satisfies the equations
 pub record Answers (sk msg salt mseed : List ℕ) (tries : ℕ) (sig : List ℕ) (r : ℕ) (sig' : List ℕ) : Type 0 where

@@ -11,10 +11,17 @@ ghost use Rattle.paper.specs.Challenge.{challenge, hidden_in};
 ghost use Rattle.seeds.specs.Expanded.{plain_keys};
 ghost use Rattle.workspace.specs.Map.{at_hashes, at_sent, at_alpha0, at_alpha1, at_roots};
 ghost use Rattle.signer.specs.State.{Within, Committed, Adds, AddsAll, Prepared};
-ghost use Rattle.signer.specs.Written.{Openable, opening_at, openings, signature_of, Answers, Signed};
+ghost use Rattle.signer.specs.Written.{Openable, opening_at, openings, signature_of, number_of, Answers, Signed};
 
 use aes::{Cols, Tables};
 use lines::Lines;
+
+// Why there is no signature: the solution does not satisfy the equations, or no nonce was found.
+#[derive(Clone, Copy, Debug, PartialEq, Eq)]
+pub enum Refused {
+    Unsatisfied,
+    Spent,
+}
 
 // ---- BLC.Commit (algorithm 10)
 
@@ -124,6 +131,7 @@ fn alphas(t: &Tables, sk: &[u8], work: &mut [u8]) -> bool
     results(t, &sk[0..60], work)
 }
 
+// Whether the solution satisfies the equations: a bool, since of the refusals only one can come of this.
 fn prepare(t: &Tables, sk: &[u8], salt: &[u8], mseed: &[u8], work: &mut [u8]) -> bool
     requires { (length sk.now ≡ 88) × (length salt.now ≡ 16) × (length mseed.now ≡ 16) × (length work.old ≡ 65536) }
     ensures { Prepared sk.now salt.now mseed.now result work.new }
@@ -197,7 +205,7 @@ fn write_signature(
     write_openings(t, &sk[60..88], aes::load(salt, 0), &c, work, sig);
 }
 
-// The challenge, and the signature where a nonce is found. The number is 0 or 5.
+// The challenge, and the signature where a nonce is found.
 fn answer(
     t: &Tables,
     sk: &[u8],
@@ -206,9 +214,9 @@ fn answer(
     tries: u32,
     sig: &mut [u8],
     work: &mut [u8],
-) -> u8
+) -> Result<(), Refused>
     requires { (length sk.now ≡ 88) × (length salt.now ≡ 16) × (length sig.old ≡ 3484) × (length work.old ≡ 65536) }
-    ensures { (m : List ℕ) (ok : Bool) → length m ≡ 16 → Prepared sk.now salt.now m ok work.old → Answers sk.now msg.now salt.now m tries sig.old result sig.new }
+    ensures { (m : List ℕ) (ok : Bool) → length m ≡ 16 → Prepared sk.now salt.now m ok work.old → Answers sk.now msg.now salt.now m tries sig.old (number_of result) sig.new }
 {
     let a = workspace::first_commitment(work);
     let b = workspace::second_commitment(work);
@@ -216,14 +224,13 @@ fn answer(
     match transcript::first_nonce(&hash, tries) {
         Some(nonce) => {
             write_signature(t, sk, salt, &a, &b, &hash, nonce, work, sig);
-            0
+            Ok(())
         }
-        None => 5,
+        None => Err(Refused::Spent),
     }
 }
 
-// Sign (algorithm 3) with so many tries. The number is 0, 4 where the solution does not satisfy the equations, or 5 where no nonce was
-// found; nothing is written to the signature before one is.
+// Sign (algorithm 3) with so many tries. Nothing is written to the signature where it is refused.
 pub fn sign(
     sk: &[u8],
     msg: &[u8],
@@ -232,13 +239,13 @@ pub fn sign(
     tries: u32,
     sig: &mut [u8],
     work: &mut [u8],
-) -> u8
+) -> Result<(), Refused>
     requires { (length sk.now ≡ 88) × (length salt.now ≡ 16) × (length mseed.now ≡ 16) × (length sig.old ≡ 3484) × (length work.old ≡ 65536) }
-    ensures { Signed sk.now msg.now salt.now mseed.now tries sig.old result sig.new }
+    ensures { Signed sk.now msg.now salt.now mseed.now tries sig.old (number_of result) sig.new }
 {
     let t = Tables::new();
     if !prepare(&t, sk, salt, mseed, work) {
-        return 4;
+        return Err(Refused::Unsatisfied);
     }
     answer(&t, sk, msg, salt, tries, sig, work)
 }

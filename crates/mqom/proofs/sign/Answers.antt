@@ -2,6 +2,8 @@
 use Rattle.mqom.proofs.Answers.{signs-refused, signs-worked}
 use Rattle.mqom.proofs.Branches.{sign-sk, sign-salt, sign-mseed, sign-sig, sign-work, sign-message, sign_zero, sign_above}
 use borrow.Author.Rules.{rules}
+use Rattle.std.proofs.Common.{ℕ, sym, subst}
+use Rattle.signer.specs.Written.{Signed}
 use Rattle.mqom.proofs.sign.Goals as goal
 
 pub returns-then-sk-ne88 : goal.returns-then-sk-ne88
@@ -40,7 +42,9 @@ returns-then-tries-gt1048576 c = signs-refused _ _ _ _ _ _ _
 pub returns : goal.returns
 returns c =
     let worked = c.sign-r in
+    let a = c.args in
+    let numbered = subst (λ (n : ℕ). Signed a.sk.now a.msg.now a.salt.now a.mseed.now a.tries a.sig.now n worked.new.sig) (sym c.number.ensures) worked.ensures in
     signs-worked _ _ _ _ _ _ _ worked.new.work
     (record { sk-88 = search rules; salt-16 = search rules; mseed-16 = search rules; sig-3484 = search rules; work-65536 = search rules })
-    (search rules) (record { some = search rules; limit = search rules }) worked.ensures.unsolved worked.ensures.spent worked.ensures.done
+    (search rules) (record { some = search rules; limit = search rules }) numbered.unsolved numbered.spent numbered.done
     c.clear.ensures (search rules)
