@@ -1,80 +1,82 @@
--- The loop that adds a tape: before turn n the first n bytes of acc and of the row at q are the new ones. Assumes nothing.
-use mathlib.Core.Path.{◌≡◌, refl, sym, ap, ap₂, ◌∙◌}
-use mathlib.Core.List.{List}
-use Prim.Native.Nat.{ℕ, ◌+◌, ◌*◌, ◌<◌, ◌≤◌}
-use native.Mathlib.Omega.{arith}
-use borrow.Author.Count.{below_more}
-use lib.Bits.{bit_xor}
-use lib.ListN.{length, set, length-set}
-use lib.Seq.{get_or-set_same, get_or-set_other}
-use Rattle.octets.specs.Lists.{vec}
-use Rattle.octets.specs.Xor.{◌⊕◌}
-use Rattle.octets.proofs.Xor.{xor-is-⊕}
+-- A tape is added: the first row is lent apart from the others, and one of these with it. Assumes nothing.
+use Rattle.std.proofs.Common.{◌≡◌, ℕ, ◌+◌, ◌-◌, ◌*◌, ◌<◌, ◌≤◌, List, ◌++◌, length, take, drop, sym, ap, ap₂, subst, ◌∙◌, arith, length-append, length-drop}
+use Rattle.std.proofs.lemmas.List.{get_or_append_left, get_or-append_right}
+use Rattle.std.proofs.lemmas.Bool.{cases_lt}
+use mathlib.Core.Logic.{◌⊎◌, inl, inr}
+use lib.Seq.{get_or-drop}
+use Rattle.octets.specs.Lists.{vec, part}
+use Rattle.octets.specs.Xor.{◌⊕◌, xor_b}
+use Rattle.octets.specs.Place.{place}
+use Rattle.octets.proofs.Xor.{length-xor_b, vec-xor_b}
+use Rattle.octets.proofs.Part.{length_part, vec-part}
+use Rattle.octets.proofs.Place.{length-place, place-write}
+use Rattle.octets.proofs.Frame.{vec-place, vec-place-before, vec-place-after}
 use Rattle.folding.specs.Rows.{Added}
 
-pub record Adding (f r : List ℕ) (q n : ℕ) (g : List ℕ) : Type 0 where
-  pub long : length g ≡ length f
-  pub acc : (b : ℕ) → b < n → vec g b ≡ vec f b ⊕ vec r b
-  pub row : (b : ℕ) → b < n → vec g (q + b) ≡ vec f (q + b) ⊕ (vec f b ⊕ vec r b)
-  pub kept : (k : ℕ) → n ≤ k → (q ≤ k → k < q + n → ⊥) → vec g k ≡ vec f k
+module _ (f r : List ℕ) (p : ℕ) (lf : length f ≡ 504) (lr : length r ≡ 56) (hp : p < 8) where
+  abbrev acc : List ℕ
+  acc = xor_b (part 0 56 f) r
 
-pub adding-start : (f r : List ℕ) (q : ℕ) → Adding f r q 0 f
-adding-start f r q =
-    record { long = refl; acc = λ b h. absurd (omega arith); row = λ b h. absurd (omega arith); kept = λ k h ne. refl }
+  abbrev rows : List ℕ
+  rows = drop 56 f
 
--- two stores, at n and at q + n
-module _ (f r : List ℕ) (q n : ℕ) (g : List ℕ) (hq : 56 ≤ q) (hn : n < 56) (fits : q + 56 ≤ length f) (a : Adding f r q n g) where
-  abbrev s : ℕ
-  s = bit_xor (vec g n) (vec r n)
+  abbrev fd : List ℕ
+  fd = xor_b (part (56 * p) 56 rows) acc
 
-  abbrev g₁ : List ℕ
-  g₁ = set g n s
+  abbrev g : List ℕ
+  g = acc ++ place (56 * p) fd rows
 
-  abbrev t : ℕ
-  t = bit_xor (vec g₁ (q + n)) s
+  length-acc : length acc ≡ 56
+  length-acc = length-xor_b 56 _ r (length_part 0 56 f (omega arith)) lr
 
-  abbrev g₂ : List ℕ
-  g₂ = set g₁ (q + n) t
+  length-rows : length rows ≡ 448
+  length-rows = length-drop 56 f ∙ omega arith
 
-  long₁ : length g₁ ≡ length f
-  long₁ = length-set g n s ∙ a.long
+  length-row : length (part (56 * p) 56 rows) ≡ 56
+  length-row = length_part (56 * p) 56 rows (omega (arith, length-rows))
 
-  s-is : s ≡ vec f n ⊕ vec r n
-  s-is = xor-is-⊕ (vec g n) (vec r n) ∙ ap (◌⊕ vec r n) (a.kept n (omega arith) (λ h k. omega arith))
+  length-fd : length fd ≡ 56
+  length-fd = length-xor_b 56 _ acc length-row length-acc
 
-  t-is : t ≡ vec f (q + n) ⊕ (vec f n ⊕ vec r n)
-  t-is =
-      xor-is-⊕ (vec g₁ (q + n)) s
-      ∙ ap₂ ◌⊕◌ (get_or-set_other g n (q + n) s 0 (λ e. omega arith) ∙ a.kept (q + n) (omega arith) (λ h k. omega arith)) s-is
+  vec-acc : (b : ℕ) → b < 56 → vec acc b ≡ vec f b ⊕ vec r b
+  vec-acc b h =
+      let none : 0 + b ≡ b = omega arith in
+      vec-xor_b (part 0 56 f) r b (omega (arith, length_part 0 56 f (omega arith))) (omega arith) ∙ ap (◌⊕ vec r b) (vec-part 0 56 f b h ∙ ap (vec f) none)
 
-  elsewhere : (k : ℕ) → (k ≡ n → ⊥) → (k ≡ q + n → ⊥) → vec g₂ k ≡ vec g k
-  elsewhere k p p' = get_or-set_other g₁ (q + n) k t 0 p' ∙ get_or-set_other g n k s 0 p
+  -- row j + 1 is row j of the others
+  vec-rows : (j b : ℕ) → vec rows (56 * j + b) ≡ vec f (56 * (j + 1) + b)
+  vec-rows j b = let at : 56 + (56 * j + b) ≡ 56 * (j + 1) + b = omega arith in get_or-drop 56 f (56 * j + b) 0 ∙ ap (vec f) at
 
-  pub adding-turn : Adding f r q (n + 1) (set (set g n s) (q + n) t)
-  adding-turn =
+  vec-behind : (j b : ℕ) → vec g (56 * (j + 1) + b) ≡ vec (place (56 * p) fd rows) (56 * j + b)
+  vec-behind j b =
+      let at : 56 * (j + 1) + b - 56 ≡ 56 * j + b = omega arith in
+      get_or-append_right acc _ 56 (56 * (j + 1) + b) 0 length-acc (omega arith) ∙ ap (vec (place (56 * p) fd rows)) at
+
+  added : Added f r p g
+  added =
       record {
-        long = length-set g₁ (q + n) t ∙ long₁;
-        acc =
-            below_more (λ (b : ℕ). vec g₂ b ≡ vec f b ⊕ vec r b) n
-            (λ b h. elsewhere b (λ e. omega arith) (λ e. omega arith) ∙ a.acc b h)
-            (get_or-set_other g₁ (q + n) n t 0 (λ e. omega arith) ∙ get_or-set_same g n s 0 (omega (arith, a.long)) ∙ s-is);
-        row =
-            below_more (λ (b : ℕ). vec g₂ (q + b) ≡ vec f (q + b) ⊕ (vec f b ⊕ vec r b)) n
-            (λ b h. elsewhere (q + b) (λ e. omega arith) (λ e. omega arith) ∙ a.row b h)
-            (get_or-set_same g₁ (q + n) t 0 (omega (arith, long₁)) ∙ t-is);
-        kept =
-            λ k h ne.
-            elsewhere k (λ e. omega arith) (λ e. ne (omega arith) (omega arith)) ∙ a.kept k (omega arith) (λ h k. ne h (omega arith));
+        long = length-append acc _ ∙ omega (arith, length-acc, length-place (56 * p) fd rows, length-rows);
+        acc = λ b h. get_or_append_left acc _ 0 b (omega (arith, length-acc)) ∙ vec-acc b h;
+        fd =
+            λ b h.
+            vec-behind p b
+            ∙ vec-place (56 * p) fd rows b (omega (arith, length-fd)) (omega (arith, length-rows))
+            ∙ vec-xor_b (part (56 * p) 56 rows) acc b (omega (arith, length-row)) (omega (arith, length-acc))
+            ∙ ap₂ ◌⊕◌ (vec-part (56 * p) 56 rows b h ∙ vec-rows p b) (vec-acc b h);
+        kept = λ j b hj h ne. vec-behind j b ∙ apart j b h ne (cases_lt j p) ∙ vec-rows j b;
       }
+    where
+      apart : (j b : ℕ) → b < 56 → (j ≡ p → ⊥) → (j < p) ⊎ (p ≤ j) → vec (place (56 * p) fd rows) (56 * j + b) ≡ vec rows (56 * j + b)
+      apart j b h ne (inl l) = vec-place-before (56 * p) fd rows (56 * j + b) (omega arith)
+      apart j b h ne (inr l) = vec-place-after (56 * p) fd rows (56 * j + b) (omega (arith, length-fd))
 
-pub adding-end : (f r : List ℕ) (p q n : ℕ) (g : List ℕ) → q ≡ 56 * p + 56 → 56 ≤ n → n ≤ 56 → Adding f r q n g → Added f r p g
-adding-end f r p q n g e h h' a =
-    record {
-      long = a.long;
-      acc = λ b hb. a.acc b (omega arith);
-      fd = λ b hb. ap (λ (k : ℕ). vec g k) (at b) ∙ a.row b (omega arith) ∙ ap (λ (k : ℕ). vec f k ⊕ (vec f b ⊕ vec r b)) (sym (at b));
-      kept = λ j b hj hb ne. a.kept (56 * (j + 1) + b) (omega arith) (λ h k. ne (omega arith));
-    }
-  where
-    at : (b : ℕ) → 56 * (p + 1) + b ≡ q + b
-    at b = omega arith
+  -- as the code has it
+  pub tape-added : (a s y : List ℕ) (k : ℕ) → a ≡ xor_b (take 56 f) r → s ≡ drop 56 f → k ≡ 56 → y ≡ xor_b (take k (drop (56 * p) s)) a
+      → Added f r p (a ++ (take (56 * p) s ++ (y ++ drop k (drop (56 * p) s))))
+  unfolding part
+  tape-added a s y k ea es ek ey = subst (Added f r p) (sym same) added
+    where
+      same : a ++ (take (56 * p) s ++ (y ++ drop k (drop (56 * p) s))) ≡ g
+      same =
+          ap₂ ◌++◌ ea
+          (place-write (56 * p) k 56 y fd s rows (ey ∙ ap₂ xor_b (ap₂ (λ (n : ℕ) (l : List ℕ). take n (drop (56 * p) l)) ek es) ea) es length-fd ek (omega (arith, length-rows)))

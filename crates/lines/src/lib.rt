@@ -142,8 +142,8 @@ fn raw(t: &Tables, keys: &[u8], leaves: &[u8], i: usize, hidden: Option<usize>) 
 }
 
 // A turn of ComputeFolding (13): the tape of leaf i.
-fn fold_leaf(t: &Tables, keys: &[u8], leaves: &[u8], i: usize, hidden: Option<usize>, f: &mut [u8])
-    requires { (length keys.now ≡ 2112) × (length leaves.now ≡ 4096) × (i < 256) × (length f.old ≡ 504) }
+fn fold_leaf(t: &Tables, keys: &[u8], leaves: &[u8], i: usize, hidden: Option<usize>, f: &mut [u8; 504])
+    requires { (length keys.now ≡ 2112) × (length leaves.now ≡ 4096) × (i < 256) }
     ensures { Folds f.old (raw_by keys.now leaves.now (unwrap_or hidden 256)) i → Folds f.new (raw_by keys.now leaves.now (unwrap_or hidden 256)) (i + 1) }
 {
     let r = raw(t, keys, leaves, i, hidden);
@@ -164,8 +164,8 @@ fn fold_leaves(t: &Tables, keys: &[u8], leaves: &[u8], hidden: Option<usize>) ->
 }
 
 // The lines of the folded tapes.
-fn of_folded(h: [u8; 32], f: &[u8], x: &[u8]) -> Lines
-    requires { (length f.now ≡ 504) × (length x.now ≡ 28) }
+fn of_folded(h: [u8; 32], f: &[u8; 504], x: &[u8]) -> Lines
+    requires { length x.now ≡ 28 }
     ensures { LinesOf h f.now x.now result }
 {
     let a = folding::all_x(f);
@@ -213,8 +213,8 @@ pub fn reveal(
 }
 
 // The values of the folded tapes at the point r.
-fn at_point(h: [u8; 32], f: &[u8], d: &[u8], r: u8) -> Values
-    requires { (length f.now ≡ 504) × (length d.now ≡ 12) }
+fn at_point(h: [u8; 32], f: &[u8; 504], d: &[u8], r: u8) -> Values
+    requires { length d.now ≡ 12 }
     ensures { ValuesOf h f.now d.now r result }
 {
     let x = folding::x_at(f, d, r);

@@ -11,4 +11,4 @@ pub returns : goal.returns
 unfolding sent part
 returns c =
     let s = c.args in
-    c.add.ensures ∙ ap (λ (l : List ℕ). xor_b l (part 16 12 s.f.now)) c.copy.ensures
+    c.add.ensures ∙ ap (λ (l : List ℕ). xor_b l (part 16 12 s.f.now)) c.copy_from_slice.ensures.after

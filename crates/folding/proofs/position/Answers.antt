@@ -1,16 +1,12 @@
 -- `folding::position` meets its contract. Assumes nothing.
-use native.Mathlib.Omega.{arith}
-use Rattle.folding.proofs.Lowest.{lowest_start, lowest-found, lowest-turn, lowest-end}
+use Rattle.std.proofs.Common.{◌≡◌, ◌∙◌, rules}
+use Rattle.std.specs.Int.{trailing_ones}
+use Prim.Native.Nat.{min}
+use mir.Syntax.{w64}
+use Rattle.folding.proofs.Lowest.{ones-position}
 use Rattle.folding.proofs.position.Goals as goal
 
-pub loop-p-init : goal.loop-p-init
-loop-p-init c = (omega arith, lowest_start _ c.requires)
-
-pub returns-then-a-eq0 : goal.returns-then-a-eq0
-returns-then-a-eq0 c = lowest-found _ _ _ (omega arith) c.loop-p.invariant.1 c.if-a-eq0.true
-
-pub loop-p-preserved : goal.loop-p-preserved
-loop-p-preserved c = (omega arith, lowest-turn _ _ _ (omega arith) c.loop-p.invariant.1 c.if-a-eq0.false)
-
 pub returns : goal.returns
-returns c = lowest-end _ _ _ (omega arith) c.loop-p.invariant.1
+returns c =
+    let e : c.min.result ≡ min (trailing_ones w64 c.args.i) 7 = search rules in
+    e ∙ ones-position c.args.i c.requires

@@ -5,4 +5,4 @@ use Rattle.folding.proofs.sum_u.Goals as goal
 
 pub returns : goal.returns
 unfolding u_acc part
-returns c = c.copy.ensures
+returns c = c.copy_from_slice.ensures.after
