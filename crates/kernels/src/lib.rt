@@ -1,5 +1,5 @@
 // The cipher, the hash and the field's two loops over vectors, for a program in C that times them. No call asks anything of its caller: a
-// wrong length is answered by a number.
+// wrong length is answered by a number, since C has no `Result`.
 #![tactic(auto)]
 
 ghost use Rattle.std.specs.Prelude.{◌≡◌, ◌%◌, length};
@@ -8,18 +8,15 @@ ghost use Rattle.kernels.specs.Kernels.{each_block, Encrypts, dot_or256, AddsSca
 
 use aes::Tables;
 
-// The blocks of buf, each under the expanded key w.
+// The blocks of buf, each under the expanded key w. By place: of what `chunks_exact_mut` lent, no clause of std says what it holds afterwards.
 fn each_block(t: &Tables, w: &[u8], buf: &mut [u8])
     requires { (length w.now ≡ 176) × (length buf.old % 16 ≡ 0) }
     ensures { buf.new ≡ each_block w.now buf.old }
 {
-    let n = buf.len() / 16;
-    let mut i = 0;
-    while i < n {
+    for i in 0..buf.len() / 16 {
         let x = aes::load(buf, 16 * i);
         let y = t.encrypt(w, x);
         aes::store(buf, 16 * i, y);
-        i += 1;
     }
 }
 
