@@ -1,25 +1,25 @@
-// check_file PUBLIC MESSAGE SIGNATURE: checks a file's signature, and prints the number.
+// check_file PUBLIC MESSAGE SIGNATURE: checks a file's signature, and prints the number. A buffer has a byte more than its file may
+// have, so that the call sees a file that is too long.
 #![tactic(auto)]
 
-fn main(rt: HostRuntime) {
-    if !files::given(files::word_count(&rt), 3) {
-        files::print_number(&rt, 1);
-        return;
-    }
+use files::Failure;
+use std::rt::{Env, Files};
+
+fn run<R: Env + Files>(rt: &R) -> Result<(), Failure<u8>> {
+    files::expect_words(rt, 3)?;
     let mut pk = [0u8; 61];
-    let a = files::load(&rt, 1, &mut pk);
-    let an = a.n;
+    let pk = files::read(rt, 1, &mut pk)?;
     let mut msg = [0u8; 65537];
-    let b = files::load(&rt, 2, &mut msg);
-    let bn = b.n;
+    let msg = files::read(rt, 2, &mut msg)?;
     let mut sig = [0u8; 3485];
-    let c = files::load(&rt, 3, &mut sig);
-    let cn = c.n;
-    if !b.read {
-        files::print_number(&rt, 1);
-        return;
-    }
+    let sig = files::read(rt, 3, &mut sig)?;
     let mut work = [0u8; 65536];
-    let n = mqom::check(&pk[..an], &msg[..bn], &sig[..cn], &mut work);
-    files::print_number(&rt, n);
+    match mqom::check(pk, msg, sig, &mut work) {
+        0 => Ok(()),
+        n => Err(Failure::Refused(n)),
+    }
+}
+
+fn main(rt: HostRuntime) {
+    files::print_outcome(&rt, run(&rt));
 }

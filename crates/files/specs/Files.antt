@@ -1,5 +1,5 @@
 -- What the calls on files answer. Which bytes a file holds no contract can say: they come from the C library. Definitions only.
-use Rattle.std.specs.Prelude.{◌≡◌, ◌⊎◌, Bool, false, List, [], ◌∷◌, ◌++◌, ℕ, ◌+◌, ◌-◌, ◌*◌, ◌≤◌, take}
+use Rattle.std.specs.Prelude.{◌≡◌, ◌⊎◌, Bool, false, Result, Ok, Err, List, [], ◌∷◌, ◌++◌, ℕ, ◌+◌, ◌-◌, ◌*◌, ◌≤◌, take}
 use Rattle.io.specs.Digits.{last_digits, IsDigitCount}
 use Rattle.octets.specs.Lists.{vec}
 
@@ -7,9 +7,19 @@ use Rattle.octets.specs.Lists.{vec}
 abbrev pub Loading : Bool → ℕ → ℕ → Type 0
 Loading read n long = (n ≤ long) × (read ≡ false → n ≡ 0)
 
+-- how many bytes a read counts: none where it failed
+abbrev pub count_of : {E : Type 0} → Result ℕ E → ℕ
+count_of (Ok n) = n
+count_of (Err _) = 0
+
 -- 0, stored; 9, an output could not be written
 abbrev pub Storing : ℕ → Type 0
 Storing number = (number ≡ 0) ⊎ (number ≡ 9)
+
+-- the number of what a call that stores answers
+abbrev pub number_of_storing : {E : Type 0} → Result Unit E → ℕ
+number_of_storing (Ok _) = 0
+number_of_storing (Err _) = 9
 
 -- n as a line is its decimal digits, as few as hold it, and a line end: r characters
 abbrev pub LineLong : ℕ → ℕ → Type 0

@@ -2,24 +2,21 @@
 // nothing else: no line end is cut off.
 #![tactic(auto)]
 
-fn main(rt: HostRuntime) {
-    if !files::given(files::word_count(&rt), 2) {
-        files::print_number(&rt, 1);
-        return;
-    }
+use cells::Refusal;
+use files::Failure;
+use std::random::RandomSource;
+use std::rt::{Env, Files};
+
+fn run<R: Env + Files + RandomSource + Eprint>(rt: &R) -> Result<(), Failure<Refusal>> {
+    files::expect_words(rt, 2)?;
     let mut cell = [0u8; 121];
-    let c = files::load(&rt, 1, &mut cell);
-    let cn = c.n;
-    if !c.read {
-        files::print_number(&rt, 1);
-        return;
-    }
+    let cell = files::read(rt, 1, &mut cell)?;
     let mut pk = [0u8; 60];
-    let n = cells::number(cells::read_cell(&cell[..cn], &mut pk));
-    if n != 0 {
-        files::print_number(&rt, n);
-        return;
-    }
-    let stored = files::store(&rt, 2, &pk);
-    files::print_number(&rt, stored);
+    cells::read_cell(cell, &mut pk).map_err(Failure::Refused)?;
+    files::store(rt, 2, &pk)?;
+    Ok(())
+}
+
+fn main(rt: HostRuntime) {
+    files::print_outcome(&rt, run(&rt));
 }

@@ -2,19 +2,22 @@
 // read_cell; where there is none, the number as a line.
 #![tactic(auto)]
 
-fn main(rt: HostRuntime) {
-    if !files::given(files::word_count(&rt), 1) {
-        files::print_number(&rt, 1);
-        return;
-    }
+use cells::Refusal;
+use files::Failure;
+use std::rt::{Env, Files};
+
+fn run<R: Env + Files + Print>(rt: &R) -> Result<(), Failure<Refusal>> {
+    files::expect_words(rt, 1)?;
     let mut pk = [0u8; 61];
-    let k = files::load(&rt, 1, &mut pk);
-    let kn = k.n;
+    let pk = files::read(rt, 1, &mut pk)?;
     let mut cell = [0u8; 120];
-    let n = cells::number(cells::write_cell(&pk[..kn], &mut cell));
-    if n != 0 {
-        files::print_number(&rt, n);
-        return;
-    }
+    cells::write_cell(pk, &mut cell).map_err(Failure::Refused)?;
     let _ = rt.write_all(&cell);
+    Ok(())
+}
+
+fn main(rt: HostRuntime) {
+    if let Err(failure) = run(&rt) {
+        files::print_number(&rt, failure.into());
+    }
 }

@@ -2,50 +2,42 @@
 // have, so that the call sees a file that is too long.
 #![tactic(auto)]
 
-fn main(rt: HostRuntime) {
-    if !files::given(files::word_count(&rt), 6) {
-        files::print_number(&rt, 1);
-        return;
-    }
+use files::Failure;
+use std::random::RandomSource;
+use std::rt::{Env, Files};
+
+fn run<R: Env + Files + RandomSource + Eprint>(rt: &R) -> Result<(), Failure<u8>> {
+    files::expect_words(rt, 6)?;
     let mut sk = [0u8; 89];
-    let a = files::load(&rt, 1, &mut sk);
-    let an = a.n;
+    let sk = files::read(rt, 1, &mut sk)?;
     let mut msg = [0u8; 65537];
-    let b = files::load(&rt, 2, &mut msg);
-    let bn = b.n;
+    let msg = files::read(rt, 2, &mut msg)?;
     let mut salt = [0u8; 17];
-    let c = files::load(&rt, 3, &mut salt);
-    let cn = c.n;
+    let salt = files::read(rt, 3, &mut salt)?;
     let mut mseed = [0u8; 17];
-    let d = files::load(&rt, 4, &mut mseed);
-    let dn = d.n;
+    let mseed = files::read(rt, 4, &mut mseed)?;
     let mut tries = [0u8; 5];
-    let e = files::load(&rt, 5, &mut tries);
-    let en = e.n;
-    if !b.read {
-        files::print_number(&rt, 1);
-        return;
-    }
-    if en != 4 {
-        files::print_number(&rt, 1);
-        return;
-    }
-    let t = files::low_first(&tries[..en]);
+    let Ok(tries) = files::read(rt, 5, &mut tries)?.try_into() else {
+        return Err(Failure::Input);
+    };
     let mut sig = [0u8; 3484];
     let mut work = [0u8; 65536];
     let n = mqom::sign(
-        &sk[..an],
-        &msg[..bn],
-        &salt[..cn],
-        &mseed[..dn],
-        t,
+        sk,
+        msg,
+        salt,
+        mseed,
+        files::low_first(tries),
         &mut sig,
         &mut work,
     );
     if n != 0 {
-        files::print_number(&rt, n);
-        return;
+        return Err(Failure::Refused(n));
     }
-    let stored = files::store(&rt, 6, &sig);
-    files::print_number(&rt, stored);
+    files::store(rt, 6, &sig)?;
+    Ok(())
+}
+
+fn main(rt: HostRuntime) {
+    files::print_outcome(&rt, run(&rt));
 }

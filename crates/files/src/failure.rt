@@ -1,0 +1,51 @@
+// Why a program's number is not 0.
+ghost use Rattle.std.specs.Prelude.{◌≡◌};
+ghost use Rattle.files.specs.Failure.{IsNumberOf};
+ghost use Rattle.files.specs.declared.failure.Failure.TheVariants.{Input, Unwritten as NotWritten};
+
+use crate::numbers::print_number;
+use crate::writing::Unwritten;
+use std::io::Error;
+
+// E is what the library's call answers where it refuses.
+#[derive(Clone, Copy)]
+pub enum Failure<E> {
+    // the number of words is not right, or a file can't be read
+    Input,
+    Refused(E),
+    // the call's number is 0, and an output could not be written
+    Unwritten,
+}
+
+impl<E> From<Error> for Failure<E> {
+    ghost from_gives = { λ _ failure. failure ≡ Input };
+
+    fn from(_: Error) -> Failure<E> {
+        Failure::Input
+    }
+}
+
+impl<E> From<Unwritten> for Failure<E> {
+    ghost from_gives = { λ _ failure. failure ≡ NotWritten };
+
+    fn from(_: Unwritten) -> Failure<E> {
+        Failure::Unwritten
+    }
+}
+
+impl<E: Into<u8>> From<Failure<E>> for u8 {
+    ghost from_gives = { IsNumberOf E.converts };
+
+    fn from(failure: Failure<E>) -> u8 {
+        match failure {
+            Failure::Input => 1,
+            Failure::Refused(e) => e.into(),
+            Failure::Unwritten => u8::from(Unwritten),
+        }
+    }
+}
+
+// Prints the number of what a program's run came to.
+pub fn print_outcome<R: Print, E: Into<u8>>(rt: &R, outcome: Result<(), Failure<E>>) {
+    print_number(rt, outcome.map_or_else(u8::from, |()| 0));
+}
