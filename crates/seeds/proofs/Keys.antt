@@ -1,10 +1,11 @@
 -- Expanded keys that lie end to end: where each is found, what each of a tree's twelve is, and a loop that writes them. Assumes nothing.
-use mathlib.Core.Path.{◌≡◌, refl, ap, sym, ◌∙◌}
+use mathlib.Core.Path.{◌≡◌, refl, ap, ap₂, sym, subst, ◌∙◌}
 use mathlib.Core.List.{List, [], ◌∷◌}
 use Prim.Native.Nat.{ℕ, zero, suc, ◌+◌, ◌-◌, ◌*◌, ◌<◌, ◌≤◌}
 use native.Mathlib.Omega.{arith}
 use lib.Dec.{lit<}
-use lib.ListN.{length}
+use lib.ListN.{length, get_or}
+use Rattle.std.proofs.lemmas.List.{get_or-map}
 use Rattle.octets.specs.Lists.{vec, part, joined, zero16}
 use Rattle.octets.specs.Place.{place}
 use Rattle.octets.proofs.Part.{part-all, part-joined, length-joined}
@@ -12,6 +13,9 @@ use Rattle.octets.proofs.Frame.{part-turn}
 use Rattle.aes.specs.Cipher.{expand_key}
 use Rattle.aes.proofs.Bounds.{length-expand_key}
 use Rattle.paper.specs.Symmetric.{tweak_salt, derive, commit_first, commit_second, expand}
+use Rattle.seeds.specs.declared.Purpose.{Purpose}
+use Rattle.seeds.specs.declared.Purpose.TheVariants.{Derive, CommitFirst, CommitSecond, Expand}
+use Rattle.seeds.specs.Purpose.{place_of}
 use Rattle.seeds.specs.Expanded.{key_at, plain_keys, tree_purposes, tree_layers, tree_key, tree_keys}
 
 -- ---- PRG for salt 0 and e 0
@@ -70,7 +74,25 @@ expand-key salt e (suc zero) l = refl
 expand-key salt e (suc (suc zero)) l = refl
 expand-key salt e (suc (suc (suc i))) l = absurd (omega arith)
 
--- the tables' bounds
+-- ---- the code's table of a tree's keys
+
+abbrev pub in_code : List (Purpose × ℕ)
+in_code =
+    (Derive, 1) ∷ (Derive, 2) ∷ (Derive, 3) ∷ (Derive, 4) ∷ (Derive, 5) ∷ (Derive, 6) ∷ (Derive, 7) ∷ (CommitFirst, 0) ∷ (CommitSecond, 0)
+    ∷ (Expand, 0) ∷ (Expand, 1) ∷ (Expand, 2) ∷ []
+
+purpose-in_code : (k : ℕ) (d : Purpose × ℕ) → k < 12 → vec tree_purposes k ≡ place_of (get_or in_code k d).0
+unfolding tree_purposes
+purpose-in_code k d h = get_or-map (λ (p : Purpose × ℕ). place_of p.0) in_code k d 0 h
+
+layer-in_code : (k : ℕ) (d : Purpose × ℕ) → k < 12 → vec tree_layers k ≡ (get_or in_code k d).1
+unfolding tree_layers
+layer-in_code k d h = get_or-map (λ (p : Purpose × ℕ). p.1) in_code k d 0 h
+
+pub key-in_code : (k : ℕ) (d : Purpose × ℕ) (salt : List ℕ) (e : ℕ) → k < 12
+    → expand_key (tweak_salt salt (place_of (get_or in_code k d).0) e (get_or in_code k d).1) ≡ tree_key salt e k
+unfolding tree_key
+key-in_code k d salt e h = ap₂ (λ (p j : ℕ). expand_key (tweak_salt salt p e j)) (sym (purpose-in_code k d h)) (sym (layer-in_code k d h))
 
 Below : ℕ → List ℕ → Type 0
 Below b [] = Unit {0}
@@ -82,13 +104,9 @@ below_at b [] h p k = h
 below_at b (x ∷ l) h p zero = p.0
 below_at b (x ∷ l) h p (suc k) = below_at b l h p.1 k
 
-pub purpose-small : (k : ℕ) → vec tree_purposes k < 13
-unfolding tree_purposes Below
-purpose-small k = below_at 13 tree_purposes (lit< tt) (omega arith) k
-
-pub layer-small : (k : ℕ) → vec tree_layers k < 256
+pub small-in_code : (k : ℕ) (d : Purpose × ℕ) → k < 12 → (get_or in_code k d).1 < 256
 unfolding tree_layers Below
-layer-small k = below_at 256 tree_layers (lit< tt) (omega arith) k
+small-in_code k d h = subst (λ (j : ℕ). j < 256) (layer-in_code k d h) (below_at 256 tree_layers (lit< tt) (omega arith) k)
 
 -- ---- a loop that writes m keys, one after the other
 

@@ -6,4 +6,4 @@ use Rattle.seeds.proofs.derive.Goals as goal
 
 pub returns : goal.returns
 unfolding derive_with
-returns c = c.bitxor.ensures ∙ ap₂ xor_b c.encrypt-y.ensures c.psi-z.ensures
+returns c = c.bitxor.ensures ∙ ap₂ xor_b c.encrypt.ensures c.psi.ensures

@@ -7,7 +7,4 @@ use Rattle.seeds.proofs.Keys.{plain_key}
 use Rattle.seeds.proofs.plain_keys.Given as goal
 
 abbrev pub invariant-loop-i : goal.invariant-loop-i
-invariant-loop-i l = (l.i ≤ 104) × (length l.out ≡ length l.initial.out) × (part 0 (176 * l.i) l.out ≡ joined l.i plain_key)
-
-abbrev pub decreases-loop-i : goal.decreases-loop-i
-decreases-loop-i l = 104 - l.i
+invariant-loop-i l = part 0 (176 * l.i) l.out ≡ joined l.i plain_key
