@@ -7,6 +7,7 @@ ghost use Rattle.octets.specs.Lists.{zero16};
 ghost use Rattle.seeds.specs.Expanded.{plain_keys};
 
 use aes::{Cols, Tables};
+use seeds::Purpose;
 
 // seed_eq[i] (line 4).
 fn seed(mseed: &[u8], i: usize) -> Cols
@@ -14,7 +15,7 @@ fn seed(mseed: &[u8], i: usize) -> Cols
     ensures { block_of result ≡ seed_eq mseed.now i }
 {
     let mut p = [0u8; 35];
-    p[0] = seeds::selector(seeds::EQUATIONS);
+    p[0] = Purpose::Equations.selector();
     p[1..33].copy_from_slice(mseed);
     p[33] = (i % 256) as u8;
     let mut s = [0u8; 16];

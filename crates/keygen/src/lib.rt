@@ -9,13 +9,14 @@ ghost use Rattle.seeds.specs.Expanded.{plain_keys};
 ghost use Rattle.paper.specs.Keys.{drawn, rows, values_at, key_gen};
 
 use aes::Tables;
+use seeds::Purpose;
 
 // x and mseed_eq, laid end to end (line 2).
 fn draw(seed: &[u8]) -> [u8; 60]
     ensures { result ≡ drawn seed.now }
 {
     let mut r = [0u8; 60];
-    shake::xof_after(seeds::selector(seeds::KEY), seed, &mut r);
+    shake::xof_after(Purpose::Key.selector(), seed, &mut r);
     r
 }
 

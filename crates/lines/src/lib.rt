@@ -14,6 +14,7 @@ ghost use Rattle.lines.specs.Standing.{com_by, tape_by, leaf_at, grown, rebuilt,
 ghost use Rattle.lines.specs.Answers.{Committed, Revealed, Evaluated, LinesOf, ValuesOf};
 
 use aes::{Cols, Tables};
+use seeds::Purpose;
 
 // What BLC.Commit makes of a repetition: hash_ls_com, the lines' coefficients, and the part of the correction that is sent.
 #[derive(Drop)]
@@ -86,7 +87,7 @@ fn commit_leaves(t: &Tables, keys: &[u8], room: &mut [u8])
     requires { (length keys.now ≡ 2112) × (length room.old ≡ 12289) }
     ensures { Stands (part 0 4096 room.old) (coms_by keys.now (part 0 4096 room.old)) room.new }
 {
-    room[4096] = seeds::selector(seeds::LEAVES);
+    room[4096] = Purpose::Leaves.selector();
     for i in 0..256 {
         commit_leaf(t, keys, room, i);
     }
@@ -142,7 +143,14 @@ fn raw(t: &Tables, keys: &[u8], leaves: &[u8], i: usize, hidden: Option<usize>) 
 }
 
 // A turn of ComputeFolding (13): the tape of leaf i.
-fn fold_leaf(t: &Tables, keys: &[u8], leaves: &[u8], i: usize, hidden: Option<usize>, f: &mut [u8; 504])
+fn fold_leaf(
+    t: &Tables,
+    keys: &[u8],
+    leaves: &[u8],
+    i: usize,
+    hidden: Option<usize>,
+    f: &mut [u8; 504],
+)
     requires { (length keys.now ≡ 2112) × (length leaves.now ≡ 4096) × (i < 256) }
     ensures { Folds f.old (raw_by keys.now leaves.now (unwrap_or hidden 256)) i → Folds f.new (raw_by keys.now leaves.now (unwrap_or hidden 256)) (i + 1) }
 {

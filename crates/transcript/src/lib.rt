@@ -11,6 +11,8 @@ ghost use Rattle.paper.specs.Challenge.{challenge, passes as passes_of, first_be
 ghost use Rattle.paper.specs.Scheme.{transcript as transcript_of};
 ghost use Rattle.transcript.specs.Search.{search_of};
 
+use seeds::Purpose;
+
 // out holds the nonce afterwards, low byte first.
 pub fn put_nonce(nonce: u32, out: &mut [u8])
     requires { length out.old ≡ 4 }
@@ -25,7 +27,7 @@ fn transcript_input(pk: &[u8], com1: &[u8], com2: &[u8], m: &[u8; 32]) -> [u8; 1
     ensures { result ≡ selector_of for_transcript ∷ (pk.now ++ com1.now ++ com2.now ++ m.now) }
 {
     let mut p = [0; 157];
-    p[0] = seeds::selector(seeds::TRANSCRIPT);
+    p[0] = Purpose::Transcript.selector();
     octets::put(pk, &mut p, 1);
     octets::put(com1, &mut p, 61);
     octets::put(com2, &mut p, 93);
@@ -38,7 +40,7 @@ pub fn fiat_shamir(pk: &[u8], com1: &[u8], com2: &[u8], msg: &[u8]) -> [u8; 32]
     requires { (length pk.now ≡ 60) × (length com1.now ≡ 32) × (length com2.now ≡ 32) }
     ensures { result ≡ transcript_of pk.now com1.now com2.now msg.now }
 {
-    let m = seeds::hash_after(seeds::MESSAGE, msg);
+    let m = seeds::hash_after(Purpose::Message, msg);
     shake::hash32(&transcript_input(pk, com1, com2, &m))
 }
 
@@ -47,7 +49,7 @@ fn challenge_input(hash: &[u8; 32]) -> [u8; 37]
     ensures { part 0 33 result ≡ selector_of for_challenge ∷ hash.now }
 {
     let mut p = [0; 37];
-    p[0] = seeds::selector(seeds::CHALLENGE);
+    p[0] = Purpose::Challenge.selector();
     octets::put(hash, &mut p, 1);
     p
 }

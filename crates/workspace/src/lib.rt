@@ -7,6 +7,8 @@ ghost use Rattle.octets.specs.Place.{place};
 ghost use Rattle.paper.specs.Symmetric.{hash as hash_of, selector as selector_of, for_alphas, for_commitment};
 ghost use Rattle.workspace.specs.Map.{at_vectors, at_tree, at_com1, at_hashes, at_com2, at_alpha0, at_alpha1};
 
+use seeds::Purpose;
+
 pub const VECTORS: usize = 18304;
 
 pub const TREE: usize = 29248;
@@ -69,7 +71,7 @@ pub fn first_commitment(work: &mut [u8]) -> [u8; 32]
     ensures hash { result ≡ hash_of for_commitment (part at_hashes 748 work.old) }
     ensures rest { work.new ≡ place at_com1 (selector_of for_commitment ∷ []) work.old }
 {
-    work[COM1] = seeds::selector(seeds::COMMITMENT);
+    work[COM1] = Purpose::Commitment.selector();
     shake::hash32(&work[COM1..COM1_END])
 }
 
@@ -79,6 +81,6 @@ pub fn second_commitment(work: &mut [u8]) -> [u8; 32]
     ensures hash { result ≡ hash_of for_alphas (part at_alpha0 952 work.old) }
     ensures rest { work.new ≡ place at_com2 (selector_of for_alphas ∷ []) work.old }
 {
-    work[COM2] = seeds::selector(seeds::ALPHAS);
+    work[COM2] = Purpose::Alphas.selector();
     shake::hash32(&work[COM2..COM2_END])
 }
