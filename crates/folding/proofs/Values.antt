@@ -14,7 +14,7 @@ use Rattle.octets.proofs.Part.{length_part, vec-part}
 use Rattle.octets.proofs.Tab.{length-tab, vec-tab, is-tab, tab-ext}
 use Rattle.field.specs.Gf.{◌⊗◌, lift}
 use Rattle.field.specs.Vec.{sum, skip, half, lifted}
-use Rattle.field.proofs.Field.{lift-⊕, lift-lt}
+use Rattle.field.proofs.Field.{lift-⊕}
 use Rattle.field.proofs.Sum.{sum-ext, skip-other, sum-skip-past}
 use Rattle.algebra.specs.Line.{line, constant_of, correction_of, value_of}
 use Rattle.algebra.specs.Folding.{point, acc_of, fold_of, hide}
@@ -40,10 +40,6 @@ lifted-xor_b a b q ha hb =
     ap (λ (x : ℕ). lift (x / 2 ^ (4 * (q % 2)) % 2 ^ 4)) (vec-xor_b a b (q / 2) ha hb)
     ∙ ap lift (ap (λ (x : ℕ). x % 2 ^ 4) (⊕-shr (4 * (q % 2)) (vec a (q / 2)) (vec b (q / 2))) ∙ ⊕-mod 4 (vec a (q / 2) / 2 ^ (4 * (q % 2))) (vec b (q / 2) / 2 ^ (4 * (q % 2))))
     ∙ lift-⊕ (vec a (q / 2) / 2 ^ (4 * (q % 2)) % 2 ^ 4) (vec b (q / 2) / 2 ^ (4 * (q % 2)) % 2 ^ 4)
-
-pub lifted-byte : (l : List ℕ) (q : ℕ) → lifted l q < 256
-unfolding lifted
-lifted-byte l q = lift-lt (half l q)
 
 -- ---- the buffer's rows
 

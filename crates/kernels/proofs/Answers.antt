@@ -58,11 +58,6 @@ dot-done a b e p = p ∙ choose _ (dot (length a) (vec a) (vec b)) 256 (eq-eqb (
 
 -- ---- kernels_add_scaled
 
-pub scaled-refused : {d : List ℕ} {w : ℕ} {s : List ℕ} → (length d ≡ length s → ⊥) → AddsScaled d w s 1 d
-scaled-refused {d} {w} {s} h =
-    let e = ne_eqb (length d) (length s) h in
-    record { number = leave _ 0 1 e; output = leave _ (add_scaled d w s) d e }
-
 pub scaled-done : {d : List ℕ} {w : ℕ} {s after : List ℕ} → length d ≡ length s → after ≡ add_scaled d w s → AddsScaled d w s 0 after
 scaled-done {d} {w} {s} {after} l p =
     let e = eq-eqb (length d) (length s) l in

@@ -8,7 +8,7 @@ use lib.ListN.{length}
 use Rattle.octets.specs.Lists.{part, joined}
 use Rattle.octets.specs.Place.{place}
 use Rattle.octets.proofs.Part.{length-joined}
-use Rattle.octets.proofs.Place.{length-place, place_none, place-turn, place-whole}
+use Rattle.octets.proofs.Place.{place_none, place-turn, place-whole}
 use Rattle.octets.proofs.Frame.{part-after}
 use Rattle.aes.specs.Cipher.{cipher}
 use Rattle.aes.proofs.Bounds.{length-cipher}
@@ -28,10 +28,6 @@ length-blocks w l i hw = length-joined i 16 (block w l) (λ k h. length-cipher w
 pub done_none : (w l : List ℕ) → l ≡ done w l 0
 unfolding done joined
 done_none w l = sym (place_none 0 l)
-
-pub length-done : (w l : List ℕ) (i : ℕ) → length (done w l i) ≡ length l
-unfolding done
-length-done w l i = length-place 0 _ l
 
 -- e holds what the loop has done, and y is block i of e, encrypted
 pub done-turn : (w l : List ℕ) (i : ℕ) {e y : List ℕ} → length w ≡ 176 → 16 * i + 16 ≤ length l → e ≡ done w l i → y ≡ cipher w (part (16 * i) 16 e)
