@@ -8,38 +8,20 @@ ghost use Rattle.std.specs.Prelude.{◌≡◌, ◌+◌, ◌≤◌, length};
 use aes::{Cols, Tables};
 use std::io;
 
-fn digit(n: u8) -> u8 {
-    let d = n % 16;
-    if d < 10 { 48 + d } else { 87 + d }
-}
-
-// The sixteen bytes of x from p on.
-fn show(rt: &impl Print, x: &[u8], p: usize) -> io::Result<()>
-    requires { p + 16 ≤ length x.now }
-{
-    let mut line = [10u8; 33];
-    let mut i: usize = 0;
-    while i < 16 {
-        let b = x[p + i];
-        line[2 * i] = digit(b / 16);
-        line[2 * i + 1] = digit(b);
-        i += 1;
+fn show(rt: &impl Print, x: &[u8]) -> io::Result<()> {
+    for b in x {
+        print!(rt; "{:02x}", *b)?;
     }
-    rt.write_all(&line)
+    println!(rt)
 }
 
 fn show_block(rt: &impl Print, k: Cols) -> io::Result<()> {
-    let x = <[u8; 16]>::from(k);
-    show(rt, &x, 0)
+    show(rt, &<[u8; 16]>::from(k))
 }
 
-fn show_key(rt: &impl Print, w: &[u8]) -> io::Result<()>
-    requires { length w.now ≡ 176 }
-{
-    let mut r: usize = 0;
-    while r < 11 {
-        show(rt, w, 16 * r)?;
-        r += 1;
+fn show_key(rt: &impl Print, w: &[u8; 176]) -> io::Result<()> {
+    for round_key in w.chunks_exact(16) {
+        show(rt, round_key)?;
     }
     Ok(())
 }
@@ -48,32 +30,25 @@ fn show_key(rt: &impl Print, w: &[u8]) -> io::Result<()>
 fn made(i: u32, n: u32) -> Cols {
     let mut x = [0u8; 16];
     let mut v: u32 = i % 256 * 256 + n % 256;
-    let mut j: usize = 0;
-    while j < 16 {
+    for byte in x.iter_mut() {
         v = v % 65536 * 25173 + 13849;
-        x[j] = (v / 256 % 256) as u8;
-        j += 1;
+        *byte = (v / 256 % 256) as u8;
     }
     Cols::from(x)
 }
 
 fn chain(t: &Tables, i: u32) -> Cols {
     let w = t.expand(made(i, 0));
-    let mut s = made(i, 1);
-    s = t.encrypt(&w, s);
-    let mut n: u32 = 2;
-    while n <= 20 {
+    let mut s = t.encrypt(&w, made(i, 1));
+    for n in 2..=20u32 {
         s = t.encrypt(&w, s ^ made(i, n));
-        n += 1;
     }
     s
 }
 
 fn chains(rt: &impl Print, t: &Tables) -> io::Result<()> {
-    let mut i: u32 = 0;
-    while i < 12 {
+    for i in 0..12u32 {
         show_block(rt, chain(t, i))?;
-        i += 1;
     }
     Ok(())
 }

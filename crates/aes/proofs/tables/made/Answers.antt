@@ -1,5 +1,5 @@
 -- `aes::tables::made` meets its contract: the code's constant is the table of the rule. Assumes nothing.
-use Rattle.std.proofs.Common.{ℕ, ◌≡◌, ◌/◌, ◌%◌, ◌∙◌, ap}
+use Rattle.std.proofs.Common.{◌≡◌, ◌/◌, ◌%◌, ◌∙◌, ap}
 use native.Mathlib.Nat.{mod-lt}
 use lib.Dec.{lit<}
 use Rattle.octets.specs.Lists.{vec, bytes_of}

@@ -1,6 +1,6 @@
 -- `aes::Tables::expand` meets its contract: before turn r the first r + 1 round keys stand, and k is the last of them. Assumes nothing.
 use mathlib.Core.Path.{◌≡◌}
-use Prim.Native.Nat.{◌≤◌, ◌-◌, ◌+◌, ◌*◌}
+use Prim.Native.Nat.{◌+◌, ◌*◌}
 use lib.ListN.{length}
 use Rattle.octets.specs.Lists.{part, joined}
 use Rattle.aes.specs.Words.{block_of}
