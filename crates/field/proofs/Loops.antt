@@ -2,8 +2,8 @@
 -- Assumes nothing.
 use mathlib.Core.Path.{◌≡◌, refl, sym, ap, ◌∙◌, subst}
 use mathlib.Core.List.{List, [], ◌∷◌}
-use Prim.Native.Nat.{ℕ, zero, suc, ◌+◌, ◌*◌, ◌<◌, ◌≤◌}
-use native.Mathlib.Nat.{not-suc-le-zero, mul-le-mul_right}
+use Prim.Native.Nat.{ℕ, zero, suc, ◌+◌, ◌<◌, ◌≤◌}
+use native.Mathlib.Nat.{not-suc-le-zero}
 use native.Mathlib.Numerals.{add-one}
 use native.Mathlib.Omega.{arith}
 use lib.Bits.{bit_xor}
@@ -62,10 +62,3 @@ row-turn j = rw (add-one, row_next)
 
 pub row_fits : (j n : ℕ) → j < n → row_start j + (j + 1) ≤ row_start n
 row_fits j n h = subst (λ (k : ℕ). k ≤ row_start n) (row-turn j) (row-le (j + 1) n (omega arith))
-
--- row k of w rows of n elements lies in l
-pub grid-fits : (k w n l : ℕ) → k < w → w * n ≤ l → 0 + k * n + n ≤ l
-grid-fits k w n l h f = omega (arith, mul-le-mul_right n one_more)
-  where
-    one_more : k + 1 ≤ w
-    one_more = omega arith

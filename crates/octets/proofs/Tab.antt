@@ -26,9 +26,6 @@ vec-tab (suc n) f (suc i) h = vec-tab n (λ k. f (suc k)) i (omega arith)
 pub is-tab : (n : ℕ) (f : ℕ → ℕ) (l : List ℕ) → length l ≡ n → ((i : ℕ) → i < n → vec l i ≡ f i) → l ≡ tab n f
 is-tab n f l e h = ext_get_or 0 l (tab n f) (e ∙ sym (length-tab n f)) (λ i hi. h i (omega arith) ∙ sym (vec-tab n f i (omega arith)))
 
-pub tab-vec : (l : List ℕ) → tab (length l) (vec l) ≡ l
-tab-vec l = sym (is-tab (length l) (vec l) l refl (λ i h. refl))
-
 pub tab-ext : (n : ℕ) (f g : ℕ → ℕ) → ((i : ℕ) → i < n → f i ≡ g i) → tab n f ≡ tab n g
 tab-ext n f g h = is-tab n g (tab n f) (length-tab n f) (λ i hi. vec-tab n f i hi ∙ h i hi)
 

@@ -6,9 +6,8 @@ use Prim.Native.Nat.{ℕ, ◌+◌, ◌<◌, ◌≤◌}
 use native.Mathlib.Nat.{zero-add, add-zero}
 use native.Mathlib.Numerals.{add-one}
 use native.Mathlib.Omega.{arith}
-use borrow.Author.Count.{below_more}
 use lib.ListN.{length, set, drop_of_length-le}
-use lib.Seq.{paste, paste-zero, paste-suc, length-paste, drop-paste, get_or-drop, take_all, get_or-set_same, get_or-set_other}
+use lib.Seq.{paste, paste-zero, paste-suc, drop-paste, get_or-drop, take_all}
 use Rattle.octets.specs.Lists.{vec}
 use lib.Bits.{bit_xor}
 use Rattle.octets.specs.Xor.{◌⊕◌}
@@ -20,10 +19,6 @@ written d a s i = paste d a s i
 pub written_none : (d : List ℕ) (a : ℕ) (s : List ℕ) → d ≡ written d a s 0
 unfolding written
 written_none d a s = paste-zero d a s
-
-pub length-written : (d : List ℕ) (a : ℕ) (s : List ℕ) (i : ℕ) → a + i ≤ length d → i ≤ length s → length (written d a s i) ≡ length d
-unfolding written
-length-written d a s i hd hs = length-paste d a s i hd hs
 
 -- what is not written yet
 pub written_read : (d : List ℕ) (a : ℕ) (s : List ℕ) (i k : ℕ) → a + i ≤ length d → i ≤ length s → vec (written d a s i) (a + i + k) ≡ vec d (a + i + k)
@@ -51,14 +46,6 @@ fill-turn d s i {e} {x} hd hs p q =
 pub fill_end : (d s : List ℕ) (i : ℕ) {e : List ℕ} → length d ≡ length s → length d ≤ i → e ≡ written d 0 s i → e ≡ s
 unfolding written
 fill_end d s i l h p = p ∙ ap₂ ◌++◌ (take_all i s (omega arith)) (drop_of_length-le d {i = 0 + i} (omega arith)) ∙ append-nil s
-
--- a loop that stores an element a turn, where each is known by a fact about it
-pub set_more : (P : ℕ → ℕ → Type 0) (t : List ℕ) (m v : ℕ) → m < length t → ((j : ℕ) → j < m → P j (vec t j)) → P m v
-    → (j : ℕ) → j < m + 1 → P j (vec (set t m v) j)
-set_more P t m v h all here =
-    below_more (λ (j : ℕ). P j (vec (set t m v) j)) m
-    (λ j l. subst (λ (x : ℕ). P j x) (sym (get_or-set_other t m j v 0 (λ e. omega arith))) (all j l))
-    (subst (λ (x : ℕ). P m x) (sym (get_or-set_same t m v 0 h)) here)
 
 -- before turn i the buffer d holds the first i elements of s, and what is added at i makes the next one
 pub add_turn : (d s : List ℕ) (i x : ℕ) {e : List ℕ} → i < length d → i < length s → e ≡ written d 0 s i → vec s i ≡ vec d i ⊕ x
