@@ -2,12 +2,13 @@
 use mathlib.Core.Path.{◌≡◌, refl, sym, ap, ap₂, ◌∙◌, subst, fun_ext}
 use mathlib.Core.Logic.{◌≢◌}
 use mathlib.Core.List.{List, ◌++◌, append_assoc}
-use mathlib.Core.Bool.{Bool, true, false, ◌&&◌}
+use mathlib.Core.Bool.{true, false, ◌&&◌}
 use mathlib.Core.Option.{Option, none, some}
 use Prim.Native.Nat.{ℕ, suc, ◌+◌, ◌*◌, ◌<◌, ◌≤◌}
 use native.Mathlib.Omega.{arith}
 use lib.ListN.{length, length-append}
 use Rattle.octets.specs.Lists.{part, joined, bytes_of}
+use Rattle.std.proofs.lemmas.Bool.{and_parts}
 use Rattle.paper.specs.Symmetric.{hash, for_alphas, for_commitment}
 use Rattle.paper.specs.Keys.{public_of, solution_of, mseed_eq_of, y_of, satisfied, key_gen}
 use Rattle.paper.specs.Commit.{com1, com1_from, opening, lscom, path_at, sent_at, com1_in, lseed_in}
@@ -24,18 +25,14 @@ use Rattle.paper.proofs.Challenge.{First, hidden-lt, first_some, first_more, fir
 
 -- ---- what acceptance means: the nonce passes, and both commitments are the checker's
 
-both : (p q : Bool) → (p && q) ≡ true → (p ≡ true) × (q ≡ true)
-both true q h = (refl, h)
-both false q h = (h, cc)
-
 pub accepts : (v : Variant) (pk msg salt c1 c2 a1 paths outs sent nonce : List ℕ) → verif_parts v pk msg salt c1 c2 a1 paths outs sent nonce ≡ true
     → (passes (challenge (transcript pk c1 c2 msg) nonce) ≡ true)
     × (com1_in salt paths outs sent (hidden_in (challenge (transcript pk c1 c2 msg) nonce)) ≡ c1)
     × (com2_from (alpha0_in v c1 (mseed_eq_of pk) (y_of pk) salt paths sent a1 (hidden_in (challenge (transcript pk c1 c2 msg) nonce))) a1 ≡ c2)
 unfolding verif_parts check_challenge check_com1 check_com2
 accepts v pk msg salt c1 c2 a1 paths outs sent nonce h =
-    let p = both _ _ h in
-    let q = both _ _ p.0 in
+    let p = and_parts _ _ h in
+    let q = and_parts _ _ p.0 in
     (q.0, alike-eq _ _ q.1, alike-eq _ _ p.1)
 
 -- ---- the parts of a signature
