@@ -10,21 +10,13 @@ use lib.Bits.{bit_and, and_mask, and_zero_l, and_comm}
 use lib.Dec.{lit<}
 use Rattle.octets.specs.Xor.{◌⊕◌}
 use Rattle.octets.specs.Lists.{view}
-use Rattle.octets.proofs.Xor.{⊕-comm, ⊕-assoc}
 use Rattle.field.specs.Gf.{◌⊗◌, mul_in, shift_add, times_root}
 use Rattle.field.specs.Vec.{sum}
 use Rattle.field.proofs.Linear.{Additive, additive-bit}
 use Rattle.field.proofs.Product.{root-⊕, root-lt, root-mod}
 use Rattle.field.proofs.Sum.{sum-ext}
+use Rattle.paper.proofs.Trees.{sum-front}
 use Rattle.equations.specs.Lanes.{mask_of, Masks, times_power}
-
--- ---- sums
-
--- the first of a sum apart from the others
-pub sum_head : (n : ℕ) (f : ℕ → ℕ) → sum (suc n) f ≡ f 0 ⊕ sum n (λ i. f (suc i))
-unfolding sum
-sum_head zero f = ⊕-comm 0 (f 0)
-sum_head (suc n) f = ap (◌⊕ f (suc n)) (sum_head n f) ∙ ⊕-assoc (f 0) (sum n (λ i. f (suc i))) (f (suc n))
 
 -- ---- powers of ξ
 
@@ -63,7 +55,7 @@ shift_add-sum (suc n) a v =
     ap₂ ◌⊕◌ (ap (λ (x : ℕ). x % 2 * a) whole)
     (shift_add-sum n (times_root 7 0x1b a) (v / 2)
     ∙ sum-ext n _ _ (λ b h. ap₂ (λ (x y : ℕ). x % 2 * y) (shr-shr v 1 b ∙ ap (λ (k : ℕ). v / 2 ^ k) (more b)) (power-root b a)))
-    ∙ sym (sum_head n (λ b. v / 2 ^ b % 2 * times_power b a))
+    ∙ sym (sum-front n (λ b. v / 2 ^ b % 2 * times_power b a))
   where
     whole : v ≡ v / 2 ^ 0
     whole = omega arith

@@ -5,8 +5,7 @@ use Prim.Native.Nat.{ℕ, zero, suc, ◌+◌, ◌<◌, ◌≤◌}
 use native.Mathlib.Nat.{zero-add}
 use native.Mathlib.Omega.{arith}
 use borrow.Author.Count.{below_more}
-use lib.ListN.{length, take}
-use lib.Seq.{get_or-take, length-take-le}
+use lib.ListN.{length}
 use Rattle.octets.specs.Xor.{◌⊕◌}
 use Rattle.octets.specs.Lists.{vec, tab}
 use Rattle.octets.proofs.Tab.{vec-tab}
@@ -49,16 +48,8 @@ module _ (q w : List ℕ) (x : ℕ → ℕ) (h : Monomials x w) where
       (flat_rows 56 (λ i. vec q i ⊗ vec w i) ∙ sum-ext 56 _ _ flat-row)
       (sum-ext 56 _ _ (λ j hj. ap₂ ◌⊗◌ (ap (λ (o : ℕ). vec q (o + j)) (sym (zero-add (row_start 56)))) (h.ones j hj)))
 
--- the same where q is longer than the rows and b
-pub flat-value : (q w : List ℕ) (x : ℕ → ℕ) → 1652 ≤ length q → Monomials x w
-    → dot (length (take 1652 q)) (vec (take 1652 q)) (vec w) ≡ form 56 (equation_in 56 q 0 0) x
-flat-value q w x l h =
-    ap (λ (n : ℕ). dot n (vec (take 1652 q)) (vec w)) long
-    ∙ sum-ext (row_start 56 + 56) _ _ (λ i hi. ap (◌⊗ vec w i) (get_or-take 1652 q i 0 (omega (arith, row_count))))
-    ∙ flat-form q w x h
-  where
-    long : length (take 1652 q) ≡ row_start 56 + 56
-    long = omega (arith, length-take-le 1652 q l, row_count)
+pub flat-value : (q w : List ℕ) (x : ℕ → ℕ) → length q ≡ 1652 → Monomials x w → dot (length q) (vec q) (vec w) ≡ form 56 (equation_in 56 q 0 0) x
+flat-value q w x e h = ap (λ (n : ℕ). dot n (vec q) (vec w)) (e ∙ ap (λ (n : ℕ). n + 56) (sym row_count)) ∙ flat-form q w x h
 
 -- ---- the monomials, row by row
 

@@ -14,8 +14,9 @@ use Rattle.field.specs.Gf.{times_root}
 use Rattle.field.specs.Vec.{sum}
 use Rattle.field.proofs.Product.{root-⊕}
 use Rattle.field.proofs.Sum.{sum-ext, sum-map, sum-⊕, sum-swap}
+use Rattle.paper.proofs.Trees.{sum-front}
 use Rattle.equations.specs.Lanes.{times_power, folded}
-use Rattle.equations.proofs.Digits.{sum_head, power-⊕}
+use Rattle.equations.proofs.Digits.{power-⊕}
 use Rattle.equations.proofs.Rows.{sofar, vec-sofar}
 
 -- ---- a loop
@@ -37,7 +38,7 @@ fold_from-sum (suc n) b f =
     ∙ ap₂ ◌⊕◌ (ap f (sym (add-zero b)))
     (ap (times_root 7 0x1b) (fold_from-sum n (suc b) f) ∙ sum-map (times_root 7 0x1b) (root-⊕ 7 0x1b) n (λ i. times_power i (f (suc b + i)))
     ∙ sum-ext n _ _ (λ i h. ap (λ (x : ℕ). times_root 7 0x1b (times_power i (f x))) (next i)))
-    ∙ sym (sum_head n (λ i. times_power i (f (b + i))))
+    ∙ sym (sum-front n (λ i. times_power i (f (b + i))))
   where
     next : (i : ℕ) → suc b + i ≡ b + suc i
     next i = omega arith

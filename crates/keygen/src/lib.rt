@@ -21,8 +21,8 @@ fn draw(seed: &[u8]) -> [u8; 60]
 }
 
 // The value of packed equation i at the solution whose monomials are w (line 5).
-fn value_at(t: &Tables, keys: &[u8], mseed: &[u8], w: &[u8], i: usize) -> u8
-    requires { (keys.now ≡ plain_keys) × (length mseed.now ≡ 32) × (length w.now ≡ 1652) × (i < 28) }
+fn value_at(t: &Tables, keys: &[u8], mseed: &[u8], w: &[u8; 1652], i: usize) -> u8
+    requires { (keys.now ≡ plain_keys) × (length mseed.now ≡ 32) × (i < 28) }
     ensures { (x : ℕ → ℕ) → Monomials x w.now → result ≡ form 56 (equation_in 56 (rows mseed.now i) 0 0) x }
 {
     let q = equations::expansion::expand(t, keys, mseed, i);
@@ -30,34 +30,34 @@ fn value_at(t: &Tables, keys: &[u8], mseed: &[u8], w: &[u8], i: usize) -> u8
 }
 
 // All values, for k that holds x and mseed_eq.
-fn put_values(t: &Tables, keys: &[u8], k: &[u8], y: &mut [u8])
-    requires { (keys.now ≡ plain_keys) × (length k.now ≡ 60) × (length y.old ≡ 28) }
+fn put_values(t: &Tables, keys: &[u8], k: &[u8; 60], y: &mut [u8])
+    requires { (keys.now ≡ plain_keys) × (length y.old ≡ 28) }
     ensures { y.new ≡ values_at (part 28 32 k.now) (part 0 28 k.now) }
 {
-    let w = equations::monomials(&k[0..28]);
-    let mut i = 0;
-    while i < y.len() {
-        y[i] = value_at(t, keys, &k[28..60], &w, i);
-        i += 1;
+    let w = equations::monomials(&k[..28]);
+    for (i, v) in y.iter_mut().enumerate() {
+        *v = value_at(t, keys, &k[28..60], &w, i);
     }
 }
 
 // pk: mseed_eq, and the values (line 7).
-fn put_public(t: &Tables, keys: &[u8], k: &[u8], pk: &mut [u8])
-    requires { (keys.now ≡ plain_keys) × (length k.now ≡ 60) × (length pk.old ≡ 60) }
+fn put_public(t: &Tables, keys: &[u8], k: &[u8; 60], pk: &mut [u8])
+    requires { (keys.now ≡ plain_keys) × (length pk.old ≡ 60) }
     ensures { pk.new ≡ part 28 32 k.now ++ values_at (part 28 32 k.now) (part 0 28 k.now) }
 {
-    octets::copy(&k[28..60], &mut pk[0..32]);
-    put_values(t, keys, k, &mut pk[32..60]);
+    let (m, y) = pk.split_at_mut(32);
+    m.copy_from_slice(&k[28..60]);
+    put_values(t, keys, k, y);
 }
 
 // sk: pk, and x (line 8).
-fn put_secret(pk: &[u8], k: &[u8], sk: &mut [u8])
-    requires { (length pk.now ≡ 60) × (length k.now ≡ 60) × (length sk.old ≡ 88) }
+fn put_secret(pk: &[u8], k: &[u8; 60], sk: &mut [u8])
+    requires { (length pk.now ≡ 60) × (length sk.old ≡ 88) }
     ensures { sk.new ≡ pk.now ++ part 0 28 k.now }
 {
-    octets::copy(pk, &mut sk[0..60]);
-    octets::copy(&k[0..28], &mut sk[60..88]);
+    let (p, x) = sk.split_at_mut(60);
+    p.copy_from_slice(pk);
+    x.copy_from_slice(&k[..28]);
 }
 
 // pk and sk become those of KeyGen with this key seed. What the workspace holds afterwards is not said.

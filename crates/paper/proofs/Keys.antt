@@ -53,6 +53,10 @@ solves-satisfied sk h s =
 
 -- ---- KeyGen
 
+pub length-values_at : (m x : List ℕ) → length (values_at m x) ≡ 28
+unfolding values_at
+length-values_at m x = length-tab 28 _
+
 module _ (seed_key : List ℕ) where
   abbrev x : List ℕ
   x = part 0 28 (drawn seed_key)
@@ -70,26 +74,22 @@ module _ (seed_key : List ℕ) where
   length-m : length m ≡ 32
   length-m = length_part 28 32 (drawn seed_key) (omega (arith, length-drawn))
 
-  length-values : length (values_at m x) ≡ 28
-  unfolding values_at
-  length-values = length-tab 28 _
-
   pub length-pk : length (key_gen seed_key).pk ≡ 60
   unfolding key_gen
-  length-pk = length-append m (values_at m x) ∙ ap₂ ◌+◌ length-m length-values
+  length-pk = length-append m (values_at m x) ∙ ap₂ ◌+◌ length-m (length-values_at m x)
 
   pub length-sk : length (key_gen seed_key).sk ≡ 88
   unfolding key_gen
-  length-sk = length-append (m ++ values_at m x) x ∙ ap₂ ◌+◌ (length-append m (values_at m x) ∙ ap₂ ◌+◌ length-m length-values) length-x
+  length-sk = length-append (m ++ values_at m x) x ∙ ap₂ ◌+◌ (length-append m (values_at m x) ∙ ap₂ ◌+◌ length-m (length-values_at m x)) length-x
 
   pub public-of-generated : public_of (key_gen seed_key).sk ≡ (key_gen seed_key).pk
   unfolding public_of key_gen
-  public-of-generated = part-here 60 (m ++ values_at m x) x (length-append m (values_at m x) ∙ ap₂ ◌+◌ length-m length-values)
+  public-of-generated = part-here 60 (m ++ values_at m x) x (length-append m (values_at m x) ∙ ap₂ ◌+◌ length-m (length-values_at m x))
 
   solution-of-generated : solution_of (key_gen seed_key).sk ≡ x
   unfolding solution_of key_gen
   solution-of-generated =
-      part-skip 60 0 28 (m ++ values_at m x) x (length-append m (values_at m x) ∙ ap₂ ◌+◌ length-m length-values) ∙ part-all 28 x length-x
+      part-skip 60 0 28 (m ++ values_at m x) x (length-append m (values_at m x) ∙ ap₂ ◌+◌ length-m (length-values_at m x)) ∙ part-all 28 x length-x
 
   mseed-of-generated : mseed_eq_of (key_gen seed_key).pk ≡ m
   unfolding mseed_eq_of key_gen
@@ -97,7 +97,7 @@ module _ (seed_key : List ℕ) where
 
   y-of-generated : y_of (key_gen seed_key).pk ≡ values_at m x
   unfolding y_of key_gen
-  y-of-generated = part-skip 32 0 28 m (values_at m x) length-m ∙ part-all 28 (values_at m x) length-values
+  y-of-generated = part-skip 32 0 28 m (values_at m x) length-m ∙ part-all 28 (values_at m x) (length-values_at m x)
 
   -- a key from key generation never meets refusal 4
   pub generated-satisfied : satisfied (key_gen seed_key).sk ≡ true

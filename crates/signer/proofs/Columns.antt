@@ -24,12 +24,9 @@ use Rattle.equations.specs.Lanes.{Masks, OnLines}
 use Rattle.equations.specs.Put.{Put}
 use Rattle.workspace.specs.Map.{at_vectors, at_alpha0, at_alpha1}
 use Rattle.signer.specs.State.{Within, Vectors, Resulted, Adds, AddsAll}
+use Rattle.paper.proofs.Keys.{length-values_at}
 use Rattle.workspace.proofs.Lent.{Lent}
 use Rattle.signer.proofs.Within.{within-place, within_more, within-before}
-
-length-values : (m x : List ℕ) → length (values_at m x) ≡ 28
-unfolding values_at
-length-values m x = length-tab 28 _
 
 -- ---- a column of 17 rows of 28 bytes
 
@@ -182,4 +179,4 @@ sums-end pk w₀ w i d hp e s = record {
 }
   where
     values : (x : List ℕ) → length (values_at (mseed_eq_of pk) x) ≡ 28
-    values x = length-values (mseed_eq_of pk) x
+    values x = length-values_at (mseed_eq_of pk) x

@@ -13,7 +13,7 @@ use Rattle.keygen.proofs.make_keys.Goals as goal
 pub put_public-requires : goal.put_public-requires
 put_public-requires c =
     let e = c.plain_keys.ensures in
-    (take_at _ _ 18304 (ap length e ∙ length-plain_keys) ∙ e, search rules, search rules)
+    (take_at _ _ 18304 (ap length e ∙ length-plain_keys) ∙ e, search rules)
 
 pub returns-clause-public : goal.returns-clause-public
 unfolding key_gen
