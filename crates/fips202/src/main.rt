@@ -7,35 +7,22 @@ ghost use Rattle.std.specs.Prelude.{◌≡◌, ◌<◌, ◌≤◌, length};
 ghost use Rattle.shake.specs.Shake.{shake128};
 ghost use Rattle.shake.specs.Held.{fed};
 
-use std::io;
+use shake::Sponge;
+use std::{array, io};
 
 fn filled() -> [u8; 512] {
-    let mut text = [0u8; 512];
-    for i in 0..512usize {
-        text[i] = ((i * 7 + 3) % 256) as u8;
-    }
-    text
-}
-
-fn next(i: usize, k: usize, n: usize) -> usize
-    requires { (i < n) × (0 < k) }
-    ensures { (i < result) × (result ≤ n) }
-{
-    if n - i > k { i + k } else { n }
+    array::from_fn(|i| ((i * 7 + 3) % 256) as u8)
 }
 
 // The text, absorbed k bytes at a time.
-fn fed_parts(text: &[u8], k: usize) -> shake::Sponge
+fn fed_parts(text: &[u8], k: usize) -> Sponge
     requires { 0 < k }
     ensures { result ≡ fed text.now }
 {
-    let mut s = shake::start();
-    let mut i = 0;
-    while i < text.len() {
-        let e = next(i, k, text.len());
-        let t = shake::absorb(s, &text[i..e]);
+    let mut s = Sponge::new();
+    for part in text.chunks(k) {
+        let t = s.absorb(part);
         s = t;
-        i = e;
     }
     s
 }
@@ -45,7 +32,7 @@ fn in_parts(text: &[u8], k: usize, out: &mut [u8])
     requires { 0 < k }
     ensures { out.new ≡ shake128 text.now (length out.old) }
 {
-    shake::squeeze(shake::finish(fed_parts(text, k)), out);
+    shake::squeeze(fed_parts(text, k).finish(), out);
 }
 
 fn print_head(rt: &impl Print, call: &str, n: usize, k: usize, d: usize) -> io::Result<()> {
@@ -94,59 +81,54 @@ fn after(rt: &impl Print, text: &[u8]) -> io::Result<()> {
     print_bytes(rt, &out)
 }
 
-fn messages(rt: &impl Print, text: &[u8]) -> io::Result<()>
-    requires { length text.now ≡ 512 }
-{
-    whole(rt, &text[0..0], 400)?;
-    whole(rt, &text[0..1], 400)?;
-    whole(rt, &text[0..167], 400)?;
-    whole(rt, &text[0..168], 400)?;
-    whole(rt, &text[0..169], 400)?;
-    whole(rt, &text[0..336], 400)?;
-    whole(rt, text, 400)
+fn messages(rt: &impl Print, text: &[u8; 512]) -> io::Result<()> {
+    for part in [
+        &text[..0],
+        &text[..1],
+        &text[..167],
+        &text[..168],
+        &text[..169],
+        &text[..336],
+        &text[..],
+    ] {
+        whole(rt, part, 400)?;
+    }
+    Ok(())
 }
 
-fn outputs(rt: &impl Print, text: &[u8]) -> io::Result<()>
-    requires { length text.now ≡ 512 }
-{
-    whole(rt, &text[0..32], 0)?;
-    whole(rt, &text[0..32], 1)?;
-    whole(rt, &text[0..32], 167)?;
-    whole(rt, &text[0..32], 168)?;
-    whole(rt, &text[0..32], 169)?;
-    whole(rt, &text[0..32], 336)?;
-    whole(rt, &text[0..32], 337)
+fn outputs(rt: &impl Print, text: &[u8; 512]) -> io::Result<()> {
+    for d in [0, 1, 167, 168, 169, 336, 337] {
+        whole(rt, &text[..32], d)?;
+    }
+    Ok(())
 }
 
-fn some_parts(rt: &impl Print, text: &[u8]) -> io::Result<()>
-    requires { length text.now ≡ 512 }
-{
-    parts(rt, &text[0..0], 1)?;
-    parts(rt, &text[0..8], 3)?;
-    parts(rt, &text[0..167], 13)?;
-    parts(rt, &text[0..168], 13)?;
-    parts(rt, &text[0..169], 13)
+fn some_parts(rt: &impl Print, text: &[u8; 512]) -> io::Result<()> {
+    for (part, k) in [
+        (&text[..0], 1),
+        (&text[..8], 3),
+        (&text[..167], 13),
+        (&text[..168], 13),
+        (&text[..169], 13),
+        (&text[..168], 168),
+        (&text[..336], 1),
+        (&text[..336], 168),
+        (&text[..337], 169),
+        (&text[..], 17),
+    ] {
+        parts(rt, part, k)?;
+    }
+    Ok(())
 }
 
-fn more_parts(rt: &impl Print, text: &[u8]) -> io::Result<()>
-    requires { length text.now ≡ 512 }
-{
-    parts(rt, &text[0..168], 168)?;
-    parts(rt, &text[0..336], 1)?;
-    parts(rt, &text[0..336], 168)?;
-    parts(rt, &text[0..337], 169)?;
-    parts(rt, text, 17)
-}
-
-fn others(rt: &impl Print, text: &[u8]) -> io::Result<()>
-    requires { length text.now ≡ 512 }
-{
-    short(rt, &text[0..0])?;
-    short(rt, &text[0..168])?;
-    short(rt, text)?;
-    after(rt, &text[0..0])?;
-    after(rt, &text[0..167])?;
-    after(rt, &text[0..168])
+fn others(rt: &impl Print, text: &[u8; 512]) -> io::Result<()> {
+    for part in [&text[..0], &text[..168], &text[..]] {
+        short(rt, part)?;
+    }
+    for part in [&text[..0], &text[..167], &text[..168]] {
+        after(rt, part)?;
+    }
+    Ok(())
 }
 
 // The example of 1,600 bits that NIST publishes with FIPS 202: 200 bytes a3, and 4,096 bits of output.
@@ -160,7 +142,6 @@ fn main(rt: HostRuntime) -> io::Result<()> {
     messages(&rt, &text)?;
     outputs(&rt, &text)?;
     some_parts(&rt, &text)?;
-    more_parts(&rt, &text)?;
     others(&rt, &text)?;
     example(&rt)
 }

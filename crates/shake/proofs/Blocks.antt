@@ -5,16 +5,14 @@ use mathlib.Core.List.{List, [], ◌∷◌, ◌++◌, append_assoc}
 use Prim.Native.Nat.{ℕ, zero, suc, ◌+◌, ◌-◌, ◌*◌, ◌/◌, ◌%◌, ◌^◌, ◌<◌, ◌≤◌}
 use native.Mathlib.Numerals.{add-one}
 use native.Mathlib.Omega.{arith}
+use Rattle.std.proofs.lemmas.List.{append-nil, take-append-drop, length-take-le}
 use lib.ListN.{length, take, drop, replicate, length-append, length-drop, length-replicate, drop_of_length-le}
 use lib.Seq.{take_all, take-append-le, drop-append-le, drop-drop}
 use Rattle.octets.specs.Xor.{◌⊕◌}
-use Rattle.octets.specs.Lists.{part}
-use Rattle.octets.proofs.Part.{length_part}
 use Rattle.shake.specs.Keccak.{keccak_f}
 use Rattle.shake.specs.Shake.{xor_lane, xor_byte, xor_bytes, absorb_blocks, padding, zeros, absorbed}
 use Rattle.shake.specs.Held.{sponge, fed, PutSome}
 use Rattle.shake.specs.declared.Sponge.{Sponge}
-use Rattle.octets.proofs.Slices.{take_part}
 use Rattle.shake.proofs.Lanes.{xor_lane-twice, xor_bytes-append, xor_bytes-zeros}
 
 -- ---- blocks
@@ -65,6 +63,9 @@ lanes-full n m q h e =
 -- ---- more bytes
 
 module _ (m q : List ℕ) where
+  at : length m % 168 ≡ length m - 168 * (length m / 168)
+  at = omega arith
+
   fed-below : length m % 168 + length q < 168 → sponge (xor_bytes (fed m).lanes (fed m).at q) ((fed m).at + length q) ≡ fed (m ++ q)
   unfolding fed
   fed-below h =
@@ -74,9 +75,6 @@ module _ (m q : List ℕ) where
       ∙ ap (λ (k : ℕ). lanes k (m ++ q)) same)
       (omega (arith, length-append m q))
     where
-      at : length m % 168 ≡ length m - 168 * (length m / 168)
-      at = omega arith
-
       same : length m / 168 ≡ length (m ++ q) / 168
       same = omega (arith, length-append m q)
 
@@ -90,9 +88,6 @@ module _ (m q : List ℕ) where
       ∙ ap (λ (k : ℕ). lanes k (m ++ q)) next)
       (omega (arith, length-append m q))
     where
-      at : length m % 168 ≡ length m - 168 * (length m / 168)
-      at = omega arith
-
       past : length (m ++ q) ≤ 168 * suc (length m / 168)
       past = omega (arith, length-append m q)
 
@@ -112,29 +107,52 @@ held m {s} e = ap (λ (t : Sponge). sponge t.lanes (t.at % 168)) e ∙ ap (spong
     own : (fed m).at % 168 ≡ (fed m).at
     own = omega (arith, fed-at m)
 
-module _ {a a' p : List ℕ} {j i n : ℕ} (q : PutSome a j p i n a') (m : List ℕ) (e : sponge a j ≡ fed (m ++ take i p)) where
-  size : length (part i n p) ≡ n
-  size = length_part i n p q.have
+-- the sponge was fed the front of the whole, and the rest comes next
+pub record Reached (s : Sponge) (rest whole : List ℕ) : Type 0 where
+  pub done : List ℕ
+  pub holds : s ≡ fed done
+  pub joined : done ++ rest ≡ whole
 
-  joined : (m ++ take i p) ++ part i n p ≡ m ++ take (i + n) p
-  joined = append_assoc m (take i p) (part i n p) ∙ ap (λ (l : List ℕ). m ++ l) (take_part i n p)
+pub reached-is : {s t : Sponge} {rest whole : List ℕ} → t ≡ s → Reached s rest whole → Reached t rest whole
+reached-is e r = record { done = r.done; holds = e ∙ r.holds; joined = r.joined }
 
-  at_rest : j ≡ length (m ++ take i p) % 168
-  at_rest = ap (λ (s : Sponge). s.at) e ∙ fed-at (m ++ take i p)
+pub reached-end : {s : Sponge} {rest whole : List ℕ} → Reached s rest whole → length rest ≡ 0 → s ≡ fed whole
+reached-end {rest = []} r e = r.holds ∙ ap fed (sym (append-nil r.done) ∙ r.joined)
+reached-end {rest = b ∷ p} r e = absurd (omega arith)
 
-  pub fed-next : j + n < 168 → sponge a' (j + n) ≡ fed (m ++ take (i + n) p)
-  fed-next h =
-      ap₂ sponge q.put (ap (λ (k : ℕ). j + k) (sym size))
-      ∙ ap (λ (s : Sponge). sponge (xor_bytes s.lanes s.at (part i n p)) (s.at + length (part i n p))) e
-      ∙ fed-below (m ++ take i p) (part i n p) (omega (arith, size, at_rest))
-      ∙ ap fed joined
+module _ {a a' p w : List ℕ} {j n : ℕ} (q : PutSome a j p n a') (r : Reached (sponge a j) p w) where
+  size : length (take n p) ≡ n
+  size = length-take-le n p q.have
 
-  pub fed-turn : j + n ≡ 168 → sponge (keccak_f a') 0 ≡ fed (m ++ take (i + n) p)
-  fed-turn h =
-      ap (λ (x : List ℕ). sponge (keccak_f x) 0) q.put
-      ∙ ap (λ (s : Sponge). sponge (keccak_f (xor_bytes s.lanes s.at (part i n p))) 0) e
-      ∙ fed-full (m ++ take i p) (part i n p) (omega (arith, size, at_rest))
-      ∙ ap fed joined
+  -- what is left, as the code cuts it off
+  left : take (length p - n) (drop n p) ≡ drop n p
+  left = take_all (length p - n) (drop n p) (omega (arith, length-drop n p))
+
+  next : (r.done ++ take n p) ++ take (length p - n) (drop n p) ≡ w
+  next = append_assoc r.done (take n p) _ ∙ ap (λ (l : List ℕ). r.done ++ l) (ap (λ (l : List ℕ). take n p ++ l) left ∙ take-append-drop n p) ∙ r.joined
+
+  at_rest : j ≡ length r.done % 168
+  at_rest = ap (λ (s : Sponge). s.at) r.holds ∙ fed-at r.done
+
+  pub reached-next : j + n < 168 → Reached (sponge a' (j + n)) (take (length p - n) (drop n p)) w
+  reached-next h = record {
+    done = r.done ++ take n p;
+    holds =
+        ap₂ sponge q.put (ap (λ (k : ℕ). j + k) (sym size))
+        ∙ ap (λ (s : Sponge). sponge (xor_bytes s.lanes s.at (take n p)) (s.at + length (take n p))) r.holds
+        ∙ fed-below r.done (take n p) (omega (arith, size, at_rest));
+    joined = next;
+  }
+
+  pub reached-turn : j + n ≡ 168 → Reached (sponge (keccak_f a') 0) (take (length p - n) (drop n p)) w
+  reached-turn h = record {
+    done = r.done ++ take n p;
+    holds =
+        ap (λ (x : List ℕ). sponge (keccak_f x) 0) q.put
+        ∙ ap (λ (s : Sponge). sponge (keccak_f (xor_bytes s.lanes s.at (take n p))) 0) r.holds
+        ∙ fed-full r.done (take n p) (omega (arith, size, at_rest));
+    joined = next;
+  }
 
 -- ---- the padding
 

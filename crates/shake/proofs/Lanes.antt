@@ -4,16 +4,17 @@ use mathlib.Core.List.{List, [], ◌∷◌, ◌++◌}
 use Prim.Native.Nat.{ℕ, zero, suc, ◌+◌, ◌*◌, ◌/◌, ◌%◌, ◌^◌, ◌<◌, ◌≤◌}
 use native.Mathlib.Nat.{add-zero, add-suc, suc-add, zero-mul, mul-one, mul_assoc}
 use native.Mathlib.Omega.{arith}
-use lib.ListN.{length, get_or, set, replicate}
+use lib.ListN.{length, get_or, set, take, drop, replicate}
+use Rattle.std.proofs.lemmas.List.{length-take-le}
+use Rattle.std.specs.Simd.{first_chunks}
 use lib.Pow.{pow-add}
-use lib.Seq.{set-get_or}
+use lib.Seq.{set-get_or, take-add, drop-drop}
 use Rattle.octets.specs.Xor.{◌⊕◌}
-use Rattle.octets.specs.Lists.{Bytes, vec, part}
+use Rattle.octets.specs.Lists.{Bytes, vec}
 use Rattle.octets.proofs.Xor.{⊕-assoc, ⊕-comm, ⊕-zero-r}
-use Rattle.octets.proofs.Part.{length_part}
 use Rattle.shake.specs.Shake.{xor_lane, xor_byte, xor_bytes}
 use Rattle.shake.specs.Held.{number}
-use Rattle.octets.proofs.Slices.{⊕-shl, ⊕-disjoint, part-zero, part-cons, part-append}
+use Rattle.octets.proofs.Slices.{⊕-shl, ⊕-disjoint}
 
 -- ---- a lane
 
@@ -36,10 +37,11 @@ xor_bytes-append (b ∷ p) q a j =
     xor_bytes-append p q (xor_byte a j b) (suc j)
     ∙ ap (λ (k : ℕ). xor_bytes (xor_bytes (xor_byte a j b) (suc j) p) k q) (suc-add j (length p) ∙ sym (add-suc j (length p)))
 
--- a part of one byte
-pub byte-part : (a l : List ℕ) (j i : ℕ) → i < length l → xor_byte a j (vec l i) ≡ xor_bytes a j (part i 1 l)
+-- one byte
+pub byte-first : (a l : List ℕ) (j : ℕ) → 0 < length l → xor_byte a j (vec l 0) ≡ xor_bytes a j (take 1 l)
 unfolding xor_bytes
-byte-part a l j i h = sym (ap (xor_bytes a j) (part-cons i 0 l h ∙ ap (λ (t : List ℕ). vec l i ∷ t) (part-zero (i + 1) l)))
+byte-first a [] j h = absurd (omega arith)
+byte-first a (b ∷ l) j h = refl
 
 pub xor_bytes-zeros : (n : ℕ) (a : List ℕ) (j : ℕ) → xor_bytes a j (replicate n 0) ≡ a
 unfolding xor_bytes
@@ -88,19 +90,23 @@ xor_bytes-number p a k bytes h =
 
 -- ---- a block, lane by lane
 
-pub block_none : (a l : List ℕ) (i : ℕ) → a ≡ xor_bytes a 0 (part i (8 * 0) l)
-unfolding xor_bytes
-block_none a l i = sym (ap (xor_bytes a 0) (part-zero i l))
+-- lane k of it
+word-at : (k m : ℕ) (l d : List ℕ) → k < m → get_or (first_chunks 8 m l) k d ≡ take 8 (drop (8 * k) l)
+word-at k zero l d h = absurd (omega arith)
+word-at zero (suc m) l d h = refl
+word-at (suc k) (suc m) l d h =
+    let next : 8 + 8 * k ≡ 8 * suc k = omega arith in
+    word-at k m (drop 8 l) d (omega arith) ∙ ap (take 8) (drop-drop (8 * k) 8 l ∙ ap (λ (i : ℕ). drop i l) next)
 
-pub block_more : (a l : List ℕ) (i k : ℕ) → i + 8 * k ≤ length l
-    → xor_bytes (xor_bytes a 0 (part i (8 * k) l)) (8 * k) (part (i + 8 * k) 8 l) ≡ xor_bytes a 0 (part i (8 * (k + 1)) l)
-block_more a l i k h =
-    ap (λ (j : ℕ). xor_bytes (xor_bytes a 0 (part i (8 * k) l)) j (part (i + 8 * k) 8 l)) size
-    ∙ sym (xor_bytes-append (part i (8 * k) l) (part (i + 8 * k) 8 l) a 0)
-    ∙ ap (xor_bytes a 0) (part-append i (8 * k) 8 l ∙ ap (λ (n : ℕ). part i n l) next)
-  where
-    size : 8 * k ≡ 0 + length (part i (8 * k) l)
-    size = omega (arith, length_part i (8 * k) l h)
-
-    next : 8 * k + 8 ≡ 8 * (k + 1)
-    next = omega arith
+pub block-turn : (a l : List ℕ) (k : ℕ) (d : List ℕ) {x y : List ℕ} {words : List (List ℕ)} → words ≡ first_chunks 8 (length l / 8) l → k < length l / 8
+    → x ≡ xor_bytes a 0 (take (8 * k) l)
+    → y ≡ xor_bytes x (8 * k) (get_or words k d)
+    → y ≡ xor_bytes a 0 (take (8 * (k + 1)) l)
+block-turn a l k d f h e w =
+    let size : 8 * k ≡ 0 + length (take (8 * k) l) = omega (arith, length-take-le (8 * k) l (omega arith)) in
+    let next : 8 * k + 8 ≡ 8 * (k + 1) = omega arith in
+    w
+    ∙ ap₂ (λ (z p : List ℕ). xor_bytes z (8 * k) p) e (ap (λ (ws : List (List ℕ)). get_or ws k d) f ∙ word-at k (length l / 8) l d h)
+    ∙ ap (λ (j : ℕ). xor_bytes (xor_bytes a 0 (take (8 * k) l)) j (take 8 (drop (8 * k) l))) size
+    ∙ sym (xor_bytes-append (take (8 * k) l) (take 8 (drop (8 * k) l)) a 0)
+    ∙ ap (xor_bytes a 0) (sym (take-add (8 * k) 8 l) ∙ ap (λ (n : ℕ). take n l) next)

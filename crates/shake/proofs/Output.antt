@@ -31,16 +31,6 @@ after-suc (suc n) a = after-suc n (keccak_f a)
 unfoldable pub out_byte : List ℕ → ℕ → ℕ
 out_byte a i = byte_of (after (i / 168) a) (i % 168)
 
-out_byte-block : (a : List ℕ) (n j : ℕ) → j < 168 → out_byte a (168 * n + j) ≡ byte_of (after n a) j
-unfolding out_byte
-out_byte-block a n j h = ap₂ (λ (q r : ℕ). byte_of (after q a) r) high low
-  where
-    high : (168 * n + j) / 168 ≡ n
-    high = omega arith
-
-    low : (168 * n + j) % 168 ≡ j
-    low = omega arith
-
 out_byte-first : (a : List ℕ) (i : ℕ) → i < 168 → byte_of a i ≡ out_byte a i
 unfolding out_byte after
 out_byte-first a i h = ap₂ (λ (q r : ℕ). byte_of (after q a) r) high low
@@ -91,31 +81,10 @@ bytes-output a n = rw output-tab (bytes-tab n (out_byte a) (λ i h. out_byte-lt 
 pub output-prefix : (a : List ℕ) (k n : ℕ) → k ≤ n → take k (output a n) ≡ output a k
 output-prefix a k n h = ap (take k) (output-tab a n) ∙ take-tab k n (out_byte a) h ∙ sym (output-tab a k)
 
--- ---- a loop that writes the output: before byte i it holds the state x, and byte j of it comes next, or the next state's first
+-- ---- a loop that writes the output
 
-pub record Squeezing (a : List ℕ) (i : ℕ) (x : List ℕ) (j : ℕ) : Type 0 where
-  pub turns : ℕ
-  pub count : i ≡ 168 * turns + j
-  pub state : x ≡ after turns a
-
-pub squeezing-start : (a : List ℕ) → Squeezing a 0 a 0
-squeezing-start a = record { turns = 0; count = refl; state = after-zero a }
-
--- the block is read: a permutation, and the next block begins
-pub squeezing-turn : {a x x' : List ℕ} {i j j' : ℕ} → Squeezing a i x j → j ≡ 168 → x' ≡ keccak_f x → j' ≡ 0 → Squeezing a i x' j'
-squeezing-turn {a = a} s full p e =
-    record { turns = suc s.turns; count = omega arith; state = p ∙ ap keccak_f s.state ∙ after-suc s.turns a }
-
-pub squeezing-kept : {a x x' : List ℕ} {i j j' : ℕ} → Squeezing a i x j → x' ≡ x → j' ≡ j → Squeezing a i x' j'
-squeezing-kept s p e = record { turns = s.turns; count = omega arith; state = p ∙ s.state }
-
-pub squeezing-next : {a x : List ℕ} {i j : ℕ} → Squeezing a i x j → Squeezing a (i + 1) x (j + 1)
-squeezing-next s = record { turns = s.turns; count = omega arith; state = s.state }
-
-pub squeezing-byte : {a x : List ℕ} {i j : ℕ} (n : ℕ) → Squeezing a i x j → j < 168 → i < n → byte_of x j ≡ vec (output a n) i
-squeezing-byte {a = a} {i = i} {j = j} n s h k =
-    ap (λ (y : List ℕ). byte_of y j) s.state
-    ∙ sym (out_byte-block a s.turns j h)
-    ∙ ap (out_byte a) (sym s.count)
-    ∙ sym (vec-tab n (out_byte a) i k)
-    ∙ ap (λ (l : List ℕ). vec l i) (sym (output-tab a n))
+-- the state at byte i, whose block it is
+pub output-byte : (a x : List ℕ) (n i : ℕ) → x ≡ after (i / 168) a → i < n → byte_of x (i % 168) ≡ vec (output a n) i
+unfolding out_byte
+output-byte a x n i e h =
+    ap (λ (y : List ℕ). byte_of y (i % 168)) e ∙ sym (vec-tab n (out_byte a) i h) ∙ ap (λ (l : List ℕ). vec l i) (sym (output-tab a n))

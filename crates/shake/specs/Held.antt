@@ -1,6 +1,5 @@
 -- What the code holds between its calls, and what each call does to it. Definitions only.
-use Rattle.std.specs.Prelude.{◌≡◌, List, [], ◌∷◌, ◌++◌, ℕ, ◌+◌, ◌*◌, ◌/◌, ◌%◌, ◌<◌, ◌≤◌, length, drop}
-use Rattle.octets.specs.Lists.{part}
+use Rattle.std.specs.Prelude.{◌≡◌, List, [], ◌∷◌, ◌++◌, ℕ, ◌+◌, ◌*◌, ◌/◌, ◌%◌, ◌<◌, ◌≤◌, length, take, drop}
 use Rattle.shake.specs.Shake.{xor_bytes, absorb_blocks, zeros, absorbed}
 use Rattle.shake.specs.declared.Sponge.{Sponge}
 
@@ -19,12 +18,12 @@ Absorbs s p r = (m : List ℕ) → s ≡ fed m → r ≡ fed (m ++ p)
 abbrev pub Finishes : Sponge → List ℕ → Type 0
 Finishes s a = (m : List ℕ) → s ≡ fed m → a ≡ absorbed m
 
--- n bytes of p, at least one, from i on are added at byte j, none past byte 168
-pub record PutSome (a : List ℕ) (j : ℕ) (p : List ℕ) (i n : ℕ) (a' : List ℕ) : Type 0 where
+-- the first n bytes of p, at least one, are added at byte j, none past byte 168
+pub record PutSome (a : List ℕ) (j : ℕ) (p : List ℕ) (n : ℕ) (a' : List ℕ) : Type 0 where
   pub some : 0 < n
   pub room : j + n ≤ 168
-  pub have : i + n ≤ length p
-  pub put : a' ≡ xor_bytes a j (part i n p)
+  pub have : n ≤ length p
+  pub put : a' ≡ xor_bytes a j (take n p)
 
 -- the number whose bytes, the low byte first, are p (B.1)
 unfoldable pub number : List ℕ → ℕ

@@ -3,12 +3,58 @@
 
 mod keccak;
 
-ghost use Rattle.std.specs.Prelude.{◌≡◌, [], ◌∷◌, ◌+◌, ◌*◌, ◌^◌, ◌<◌, ◌≤◌, length};
-ghost use Rattle.octets.specs.Lists.{part};
+ghost use Rattle.std.specs.Prelude.{◌≡◌, [], ◌∷◌, ◌*◌, ◌<◌, length};
 ghost use Rattle.shake.specs.Shake.{xor_byte, xor_bytes, output, shake128};
-ghost use Rattle.shake.specs.Held.{fed, Absorbs, Finishes, PutSome, number};
+ghost use Rattle.shake.specs.Held.{fed, Absorbs, Finishes, PutSome};
 
 use keccak::keccak_f;
+
+// The byte b is added at byte j.
+fn put(a: &mut [u64; 25], j: usize, b: u8)
+    requires { j < 200 }
+    ensures { a.new ≡ xor_byte a.old j b }
+{
+    a[j / 8] ^= (b as u64) << (8 * (j % 8));
+}
+
+// The 8 bytes are added to lane k.
+fn put8(a: &mut [u64; 25], k: usize, word: &[u8; 8])
+    requires { k < 25 }
+    ensures { a.new ≡ xor_bytes a.old (8 * k) word.now }
+{
+    a[k] ^= u64::from_le_bytes(*word);
+}
+
+// The block is added.
+fn put_block(a: &mut [u64; 25], block: &[u8; 168])
+    ensures { a.new ≡ xor_bytes a.old 0 block.now }
+{
+    let (words, _) = block.as_chunks::<8>();
+    for (k, word) in words.iter().enumerate() {
+        put8(a, k, word);
+    }
+}
+
+// The text's first block, or its first 8 bytes where they make a lane, or its first byte, are added at byte j. Gives how many.
+fn put_some(a: &mut [u64; 25], j: usize, text: &[u8]) -> usize
+    requires { (j < 168) × (0 < length text.now) }
+    ensures { PutSome a.old j text.now result a.new }
+{
+    if j == 0 {
+        if let Some(block) = text.first_chunk::<168>() {
+            put_block(a, block);
+            return 168;
+        }
+    }
+    if j % 8 == 0 {
+        if let Some(word) = text.first_chunk::<8>() {
+            put8(a, j / 8, word);
+            return 8;
+        }
+    }
+    put(a, j, text[0]);
+    1
+}
 
 // A message's whole blocks are absorbed, and what is left of it is added to the bytes below `at`. Of `at` the rest modulo 168 counts.
 #[derive(Drop)]
@@ -17,118 +63,47 @@ pub struct Sponge {
     pub at: usize,
 }
 
-// The byte b is added at byte j.
-fn put(a: &mut [u64; 25], j: usize, b: u8)
-    requires { j < 200 }
-    ensures { a.new ≡ xor_byte a.old j b }
-{
-    let k = j / 8;
-    a[k] = a[k] ^ ((b as u64) << 8 * (j % 8));
-}
-
-fn wide(x: u8) -> u64
-    ensures { (result ≡ x) × (result < 256) }
-{
-    x as u64
-}
-
-// The number of the 4 bytes of the text from i on.
-fn word4(text: &[u8], i: usize) -> u64
-    requires { i + 4 ≤ length text.now }
-    ensures { (result ≡ number (part i 4 text.now)) × (result < 2 ^ 32) }
-{
-    wide(text[i])
-        + wide(text[i + 1]) * 0x100
-        + wide(text[i + 2]) * 0x10000
-        + wide(text[i + 3]) * 0x1000000
-}
-
-// The number of the 8 bytes of the text from i on.
-fn word8(text: &[u8], i: usize) -> u64
-    requires { i + 8 ≤ length text.now }
-    ensures { result ≡ number (part i 8 text.now) }
-{
-    word4(text, i) + word4(text, i + 4) * 0x100000000
-}
-
-// The 8 bytes of the text from i on are added to lane k.
-fn put8(a: &mut [u64; 25], k: usize, text: &[u8], i: usize)
-    requires { (k < 25) × (i + 8 ≤ length text.now) }
-    ensures { a.new ≡ xor_bytes a.old (8 * k) (part i 8 text.now) }
-{
-    let w = word8(text, i);
-    a[k] = a[k] ^ w;
-}
-
-// The 168 bytes of the text from i on are added.
-fn put_block(a: &mut [u64; 25], text: &[u8], i: usize)
-    requires { i + 168 ≤ length text.now }
-    ensures { a.new ≡ xor_bytes a.old 0 (part i 168 text.now) }
-{
-    for k in 0..21usize {
-        put8(a, k, text, i + 8 * k);
-    }
-}
-
-// The text's next block, or its next 8 bytes where they make a lane, or its next byte, are added at byte j. Gives how many.
-fn put_some(a: &mut [u64; 25], j: usize, text: &[u8], i: usize) -> usize
-    requires { (j < 168) × (i < length text.now) }
-    ensures { PutSome a.old j text.now i result a.new }
-{
-    if j == 0 {
-        if text.len() - i >= 168 {
-            put_block(a, text, i);
-            return 168;
+impl Sponge {
+    // A sponge that was fed nothing.
+    pub fn new() -> Sponge
+        ensures { result ≡ fed [] }
+    {
+        Sponge {
+            lanes: [0; 25],
+            at: 0,
         }
     }
-    if j % 8 == 0 {
-        if text.len() - i >= 8 {
-            put8(a, j / 8, text, i);
-            return 8;
+
+    // The sponge with the text after what it was fed.
+    pub fn absorb(self, text: &[u8]) -> Sponge
+        ensures { Absorbs self text.now result }
+    {
+        let mut a = self.lanes;
+        let mut at = self.at % 168;
+        let mut rest = text;
+        // A `while`: a turn takes a block, a lane or a byte. A `for` over bytes would take each by itself.
+        while !rest.is_empty() {
+            let n = put_some(&mut a, at, rest);
+            rest = &rest[n..];
+            at += n;
+            if at == 168 {
+                keccak_f(&mut a);
+                at = 0;
+            }
         }
+        Sponge { lanes: a, at }
     }
-    put(a, j, text[i]);
-    1
-}
 
-// A sponge that was fed nothing.
-pub fn start() -> Sponge
-    ensures { result ≡ fed [] }
-{
-    Sponge {
-        lanes: [0; 25],
-        at: 0,
+    // The state after the padding, of which `squeeze` reads the output.
+    pub fn finish(self) -> [u64; 25]
+        ensures { Finishes self result }
+    {
+        let mut a = self.lanes;
+        put(&mut a, self.at % 168, 0x1f);
+        put(&mut a, 167, 0x80);
+        keccak_f(&mut a);
+        a
     }
-}
-
-// The sponge s with the text after what it was fed.
-pub fn absorb(s: Sponge, text: &[u8]) -> Sponge
-    ensures { Absorbs s text.now result }
-{
-    let mut a = s.lanes;
-    let mut at = s.at % 168;
-    let mut i = 0;
-    while i < text.len() {
-        let n = put_some(&mut a, at, text, i);
-        i += n;
-        at += n;
-        if at == 168 {
-            keccak_f(&mut a);
-            at = 0;
-        }
-    }
-    Sponge { lanes: a, at }
-}
-
-// The state after the padding, of which `squeeze` reads the output.
-pub fn finish(s: Sponge) -> [u64; 25]
-    ensures { Finishes s result }
-{
-    let mut a = s.lanes;
-    put(&mut a, s.at % 168, 0x1f);
-    put(&mut a, 167, 0x80);
-    keccak_f(&mut a);
-    a
 }
 
 // out is filled with the first bytes of the output that the state has.
@@ -136,14 +111,12 @@ pub fn squeeze(lanes: [u64; 25], out: &mut [u8])
     ensures { out.new ≡ output lanes (length out.old) }
 {
     let mut a = lanes;
-    let mut j = 0;
-    for i in 0..out.len() {
-        if j == 168 {
+    for (i, b) in out.iter_mut().enumerate() {
+        let j = i % 168;
+        if j == 0 && 0 < i {
             keccak_f(&mut a);
-            j = 0;
         }
-        out[i] = ((a[j / 8] >> 8 * (j % 8)) % 256) as u8;
-        j += 1;
+        *b = ((a[j / 8] >> (8 * (j % 8))) % 256) as u8;
     }
 }
 
@@ -151,14 +124,14 @@ pub fn squeeze(lanes: [u64; 25], out: &mut [u8])
 pub fn xof(text: &[u8], out: &mut [u8])
     ensures { out.new ≡ shake128 text.now (length out.old) }
 {
-    squeeze(finish(absorb(start(), text)), out);
+    squeeze(Sponge::new().absorb(text).finish(), out);
 }
 
 // The first 32 bytes of SHAKE128 of the text.
 pub fn hash32(text: &[u8]) -> [u8; 32]
     ensures { result ≡ shake128 text.now 32 }
 {
-    let mut h = [0u8; 32];
+    let mut h = [0; 32];
     xof(text, &mut h);
     h
 }
@@ -167,7 +140,5 @@ pub fn hash32(text: &[u8]) -> [u8; 32]
 pub fn xof_after(first: u8, text: &[u8], out: &mut [u8])
     ensures { out.new ≡ shake128 (first ∷ text.now) (length out.old) }
 {
-    let p = [first];
-    let s = absorb(start(), &p);
-    squeeze(finish(absorb(s, text)), out);
+    squeeze(Sponge::new().absorb(&[first]).absorb(text).finish(), out);
 }

@@ -1,24 +1,24 @@
--- `fips202::fed_parts` meets its contract: before each turn the first i bytes are fed. Assumes nothing.
-use mathlib.Core.Path.{◌≡◌, sym, ap, ◌∙◌}
-use Prim.Native.Nat.{ℕ, ◌+◌, ◌-◌, ◌≤◌}
-use native.Mathlib.Omega.{arith}
-use lib.ListN.{length, take}
-use lib.Seq.{take-add, take_all}
-use Rattle.shake.specs.Held.{fed}
+-- `fips202::fed_parts` meets its contract: before each turn all but the rest of the text is fed. Assumes nothing.
+use Rattle.std.proofs.Common.{◌≡◌, ℕ, List, ◌++◌, sym, ap, ◌∙◌, append_assoc}
+use Rattle.shake.specs.Held.{Absorbs}
+use Rattle.shake.specs.declared.Sponge.{Sponge}
+use Rattle.shake.proofs.Blocks.{Reached, reached-end}
 use Rattle.fips202.proofs.fed_parts.Goals as goal
 
-pub loop-i-preserved : goal.loop-i-preserved
-loop-i-preserved c =
-    let text = c.args.text.now in
-    let i = c.loop-i.i in
-    let e = c.next-e.result in
-    let on : i + (e - i) ≡ e = omega arith in (
-      omega arith,
-      c.absorb-t.ensures (take i text) c.loop-i.invariant.1 ∙ ap fed (sym (take-add i (e - i) text) ∙ ap (λ (k : ℕ). take k text) on),
-    )
+fed_more : (part : List ℕ) {s t : Sponge} {rest rest' whole : List ℕ} → Absorbs s part t → Reached s rest whole → rest ≡ part ++ rest' → Reached t rest' whole
+fed_more part {rest' = rest'} a r e =
+    record {
+      done = r.done ++ part;
+      holds = a r.done r.holds;
+      joined = append_assoc r.done part rest' ∙ ap (λ (l : List ℕ). r.done ++ l) (sym e) ∙ r.joined;
+    }
+
+pub loop-part-preserved : goal.loop-part-preserved
+loop-part-preserved c =
+    let e = rw c.in-Some.is at c.next.ensures.steps in
+    fed_more _ c.absorb-t.ensures c.loop-part.invariant e.1.0
 
 pub returns : goal.returns
 returns c =
-    let text = c.args.text.now in
-    let end : length text ≤ c.loop-i.i = omega arith in
-    c.loop-i.invariant.1 ∙ ap fed (take_all c.loop-i.i text end)
+    let e = rw c.in-None.is at c.next.ensures.steps in
+    reached-end c.loop-part.invariant e.1.0

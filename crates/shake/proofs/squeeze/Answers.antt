@@ -1,44 +1,38 @@
--- `shake::squeeze` meets its contract: before turn i the first i bytes of the output are written. Assumes nothing.
-use mathlib.Core.Path.{refl, sym, ◌∙◌}
-use Prim.Native.Nat.{◌<◌}
-use native.Mathlib.Omega.{arith}
-use lib.ListN.{length, length-set}
+-- `shake::squeeze` meets its contract: before turn i the first i bytes of the output are written, and the state is that of the byte before.
+-- Assumes nothing.
+use Rattle.std.proofs.Common.{◌≡◌, ℕ, suc, ◌+◌, ◌-◌, ◌/◌, length, sym, ap, ◌∙◌, arith}
 use Rattle.octets.proofs.Write.{written_none, fill-turn, fill_end}
-use Rattle.shake.proofs.Output.{length-output, Squeezing, squeezing-start, squeezing-turn, squeezing-kept, squeezing-next, squeezing-byte}
+use Rattle.shake.specs.Keccak.{keccak_f}
+use Rattle.shake.proofs.Output.{length-output, after, after-zero, after-suc, output-byte}
 use Rattle.shake.proofs.squeeze.Goals as goal
-use Rattle.shake.proofs.squeeze.Goals.{then-j-eq168, else-j-eq168}
+use Rattle.shake.proofs.squeeze.Goals.{then-j-eq0+then-i-gt0, else-j-eq0, else-j-eq0-via-then-j-eq0+else-i-gt0, else-j-eq0-via-else-j-eq0}
 
 pub loop-i-init : goal.loop-i-init
-loop-i-init c =
-    record {
-      upto = omega arith;
-      all = refl;
-      room = omega arith;
-      long = refl;
-      squeezing = squeezing-start c.args.lanes;
-      wrote = written_none _ _ _;
-    }
+loop-i-init c = record { state = after-zero c.args.lanes; wrote = written_none _ _ _ }
 
 pub loop-i-preserved : goal.loop-i-preserved
 loop-i-preserved c =
+    let i = c.loop-i.i in
     let inv = c.loop-i.invariant in
+    let lanes = c.args.lanes in
     let d = length c.args.out.now in
-    -- where the arms of the `if` meet, the block has a byte left
-    let met : Squeezing c.args.lanes c.loop-i.i c.if-j-eq168.a c.if-j-eq168.j × (c.if-j-eq168.j < 168) =
-    elim c.if-j-eq168.branch [
-      | then-j-eq168 w ↦ (squeezing-turn inv.squeezing w.if-j-eq168.true (w.a-is ∙ w.keccak_f.ensures) w.j-is, omega arith)
-      | else-j-eq168 w ↦ (squeezing-kept inv.squeezing w.a-is w.j-is, omega arith)
+    -- the state whose block has byte i
+    let met : c.if-j-eq0.a ≡ after (i / 168) lanes =
+    elim c.if-j-eq0.branch [
+      | then-j-eq0+then-i-gt0 w ↦
+          let next : suc ((i - 1) / 168) ≡ i / 168 = omega arith in
+          w.a-is ∙ w.keccak_f.ensures ∙ ap keccak_f inv.state ∙ after-suc ((i - 1) / 168) lanes ∙ ap (λ (k : ℕ). after k lanes) next
+      | else-j-eq0 w ↦
+          let same : (i - 1) / 168 ≡ i / 168 =
+          elim w.else-j-eq0.branch [ | else-j-eq0-via-then-j-eq0+else-i-gt0 v ↦ omega arith | else-j-eq0-via-else-j-eq0 v ↦ omega arith ]
+          in
+          w.a-is ∙ inv.state ∙ ap (λ (k : ℕ). after k lanes) same
     ]
     in
+    let on : i / 168 ≡ (i + 1 - 1) / 168 = omega arith in
     record {
-      upto = omega arith;
-      all = inv.all;
-      room = omega (arith, met.1);
-      long = simp length-set inv.long;
-      squeezing = squeezing-next met.0;
-      wrote =
-          fill-turn _ _ _ (omega arith) (omega (arith, length-output c.args.lanes d)) inv.wrote
-          (squeezing-byte d met.0 met.1 (omega arith));
+      state = met ∙ ap (λ (k : ℕ). after k lanes) on;
+      wrote = fill-turn _ _ _ (omega arith) (omega (arith, length-output lanes d)) inv.wrote (output-byte lanes _ d i met (omega arith));
     }
 
 pub returns : goal.returns

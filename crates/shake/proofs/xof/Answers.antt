@@ -7,4 +7,4 @@ use Rattle.shake.proofs.xof.Goals as goal
 pub returns : goal.returns
 returns c =
     c.squeeze.ensures
-    ∙ shake128-whole c.args.text.now (length c.args.out.now) c.start.ensures c.absorb.ensures c.finish.ensures
+    ∙ shake128-whole c.args.text.now (length c.args.out.now) c.new.ensures c.absorb.ensures c.finish.ensures

@@ -12,7 +12,7 @@ returns c =
     (c.args.first ∷ [])
     c.args.text.now
     (length c.args.out.now)
-    c.start.ensures
-    c.absorb-s.ensures
+    c.new.ensures
     c.absorb.ensures
+    c.absorb-2.ensures
     c.finish.ensures

@@ -1,11 +1,6 @@
--- `shake::keccak::keccak_f` meets its contract: before turn i what is left are the rounds of the constants from i on. Assumes nothing.
-use mathlib.Core.Path.{◌≡◌, refl, sym, ap, subst, ◌∙◌}
-use mathlib.Core.List.{List}
-use Prim.Native.Nat.{ℕ, ◌<◌, ◌+◌}
-use native.Mathlib.Omega.{arith}
-use native.Mathlib.Numerals.{add-one}
-use lib.ListN.{drop, get_or}
-use lib.Seq.{drop-cons}
+-- `shake::keccak::keccak_f` meets its contract: before each turn what is left are the rounds of the constants from there on.
+-- Assumes nothing.
+use Rattle.std.proofs.Common.{◌≡◌, ℕ, ◌+◌, ◌<◌, List, get_or, drop, refl, sym, ap, subst, ◌∙◌, add-one, drop-cons, arith}
 use Rattle.shake.specs.Keccak.{round, rounds, constants, keccak_f}
 use Rattle.shake.proofs.keccak.keccak_f.Goals as goal
 
@@ -20,23 +15,19 @@ step i s h =
 with_constant : (i rc : ℕ) (s : List ℕ) {t : List ℕ} → t ≡ round rc s → rc ≡ get_or constants i 0 → t ≡ round (get_or constants i 0) s
 with_constant i rc s e f = e ∙ ap (λ (x : ℕ). round x s) f
 
-pub loop-i-init : goal.loop-i-init
+pub loop-rc-init : goal.loop-rc-init
 unfolding keccak_f
-loop-i-init c = (omega arith, refl)
+loop-rc-init c = refl
 
-pub loop-i-preserved : goal.loop-i-preserved
+pub loop-rc-preserved : goal.loop-rc-preserved
 unfolding constants
-loop-i-preserved c =
-    let i = c.loop-i.i in
-    let h : i < 24 = omega arith in
-    let turned = with_constant i _ c.loop-i.s c.round-t.ensures refl in (
-      omega arith,
-      ap (rounds (drop (i + 1) constants)) turned ∙ step i c.loop-i.s h ∙ c.loop-i.invariant.1,
-    )
+loop-rc-preserved c =
+    let l = c.loop-rc in
+    ap (rounds (drop (l.rc-index + 1) constants)) (with_constant l.rc-index _ l.s c.round-t.ensures refl)
+    ∙ step l.rc-index l.s (omega arith) ∙ l.invariant
 
 pub returns : goal.returns
 unfolding rounds constants
 returns c =
-    let i = c.loop-i.i in
-    let e : i ≡ 24 = omega arith in
-    subst (λ (k : ℕ). rounds (drop k constants) c.loop-i.s ≡ keccak_f c.args.a.now) e c.loop-i.invariant.1
+    let e : c.loop-rc.rc-index ≡ 24 = omega arith in
+    subst (λ (k : ℕ). rounds (drop k constants) c.loop-rc.s ≡ keccak_f c.args.a.now) e c.loop-rc.invariant

@@ -1,4 +1,4 @@
--- `shake::finish` meets its contract. Assumes nothing.
+-- `shake::Sponge::finish` meets its contract. Assumes nothing.
 use mathlib.Core.Path.{ap, ◌∙◌}
 use mathlib.Core.List.{List}
 use Prim.Native.Nat.{ℕ}
@@ -6,7 +6,7 @@ use Rattle.shake.specs.Keccak.{keccak_f}
 use Rattle.shake.specs.Shake.{xor_byte}
 use Rattle.shake.specs.declared.Sponge.{Sponge}
 use Rattle.shake.proofs.Blocks.{held, finish-fed}
-use Rattle.shake.proofs.finish.Goals as goal
+use Rattle.shake.proofs.Sponge.finish.Goals as goal
 
 pub returns : goal.returns
 returns c = λ m e.
