@@ -1,12 +1,12 @@
 -- The checker's tree is algorithm 12's: its leaves, commitments and tapes, and so its hash and the lines' values. Assumes nothing.
-use mathlib.Core.Path.{◌≡◌, refl, sym, ap, ap₂, ◌∙◌}
+use mathlib.Core.Path.{◌≡◌, sym, ap, ap₂, ◌∙◌}
 use mathlib.Core.Bool.{cond}
 use mathlib.Core.List.{List, [], ◌++◌}
 use Prim.Native.Nat.{ℕ, ◌*◌, ◌<◌}
 use native.Mathlib.Omega.{arith}
 use lib.Dec.{eqb}
 use lib.ListN.{length, get_or}
-use Rattle.octets.specs.Lists.{vec, tab, part, zero16}
+use Rattle.octets.specs.Lists.{vec, tab, part, zero16, flat}
 use Rattle.octets.proofs.Part.{length_part}
 use Rattle.octets.proofs.Tab.{tab-ext}
 use Rattle.field.specs.Vec.{skip, lifted}
@@ -22,42 +22,35 @@ use Rattle.folding.specs.Rows.{Folds, x_at, u_at}
 use Rattle.folding.proofs.Folds.{folds-ext}
 use Rattle.folding.proofs.Values.{folds-x-at, folds-u-at}
 use Rattle.lines.specs.declared.Values.{Values}
-use Rattle.lines.specs.Standing.{com_by, tape_by, leaf_at, rebuilt, coms_with, raw_by, Stands}
+use Rattle.ggm.specs.Ggm.{derive_by}
+use Rattle.lines.specs.Standing.{com_by, tape_by, leaf_at, coms_with, hashed_of, raw_by}
 use Rattle.lines.specs.Answers.{Evaluated, ValuesOf}
 use Rattle.lines.proofs.Leaf.{com-held, tape-by-held}
 use Rattle.lines.proofs.Signer.{hash-standing}
 
 module _ (salt paths outs sents : List ℕ) (e i : ℕ) (keys : List ℕ) (held : keys ≡ tree_keys salt e) (path out d : List ℕ) (hp : length path ≡ 128)
     (hd : length d ≡ 12) (path-from : path ≡ part (128 * e) 128 paths) (out-from : out ≡ part (32 * e) 32 outs) (sent-from : d ≡ part (12 * e) 12 sents) where
-  abbrev leaves : List ℕ
-  leaves = rebuilt keys i path
+  module _ (leaves text h f : List ℕ) (long : length leaves ≡ 4096) (rebuilt : leaves ≡ flat (rebuild_of (derive_by keys) 8 0 i path))
+      (lf : length f ≡ 504) (F : Folds f (raw_by keys leaves i) 256) (hashed : text ≡ hashed_of (coms_with keys leaves i out)) (hash-is : h ≡ shake128 text 32) where
+    leaf-is : (k : ℕ) → k < 256 → leaf_at leaves k ≡ lseed_in salt paths e i k
+    unfolding leaf_at lseed_in
+    leaf-is k l =
+        rebuilt-held salt e keys held i path leaves k (omega arith) rebuilt l
+        ∙ ap (λ (p : List ℕ). get_or (rebuild_of (derive_in salt e) 8 0 i p) k []) path-from
 
-  leaf-is : (k : ℕ) → k < 256 → leaf_at leaves k ≡ lseed_in salt paths e i k
-  unfolding leaf_at lseed_in
-  leaf-is k h =
-      rebuilt-held salt e keys held i path leaves k (omega arith) refl h
-      ∙ ap (λ (p : List ℕ). get_or (rebuild_of (derive_in salt e) 8 0 i p) k []) path-from
+    com-is : (k : ℕ) → k < 256 → cond (eqb k i) out (com_by keys (leaf_at leaves k)) ≡ lscom_in salt paths outs e i k
+    unfolding lscom_in
+    com-is k l =
+        ap₂ (λ (a b : List ℕ). cond (eqb k i) a b) out-from
+        (com-held salt e keys held (leaf_at leaves k) ∙ ap (leaf_com salt e) (leaf-is k l))
 
-  com-is : (k : ℕ) → k < 256 → cond (eqb k i) out (com_by keys (leaf_at leaves k)) ≡ lscom_in salt paths outs e i k
-  unfolding lscom_in
-  com-is k h =
-      ap₂ (λ (a b : List ℕ). cond (eqb k i) a b) out-from
-      (com-held salt e keys held (leaf_at leaves k) ∙ ap (leaf_com salt e) (leaf-is k h))
-
-  tape-is : length leaves ≡ 4096 → (k : ℕ) → k < 256 → tape_by keys (leaf_at leaves k) ≡ tape_in 28 salt paths e i k
-  unfolding tape_in leaf_at
-  tape-is hl k h =
-      tape-by-held salt e keys held (leaf_at leaves k) (length_part (16 * k) 16 leaves (omega arith)) ∙ ap (tape 28 salt e) (leaf-is k h)
-
-  module _ (room f h : List ℕ) (S : Stands leaves (coms_with keys leaves i out) room)
-      (hash-is : h ≡ shake128 (part 4096 8193 room) 32) (lf : length f ≡ 504) (F : Folds f (raw_by keys (part 0 4096 room) i) 256) where
-    length-leaves : length leaves ≡ 4096
-    length-leaves = ap length (sym S.seeds) ∙ length_part 0 4096 room (omega (arith, S.long))
+    tape-is : (k : ℕ) → k < 256 → tape_by keys (leaf_at leaves k) ≡ tape_in 28 salt paths e i k
+    unfolding tape_in leaf_at
+    tape-is k l =
+        tape-by-held salt e keys held (leaf_at leaves k) (length_part (16 * k) 16 leaves (omega arith)) ∙ ap (tape 28 salt e) (leaf-is k l)
 
     folded : Folds f (hide i (λ k. vec (tape_in 28 salt paths e i k))) 256
-    folded =
-        folds-ext f (λ k. tape_by keys (leaf_at (part 0 4096 room) k)) (tape_in 28 salt paths e i) i 256
-        (λ k hk. ap (λ (l : List ℕ). tape_by keys (leaf_at l k)) S.seeds ∙ tape-is length-leaves k hk) F
+    folded = folds-ext f (λ k. tape_by keys (leaf_at leaves k)) (tape_in 28 salt paths e i) i 256 tape-is F
 
     x-at : (q : ℕ) → q < 56 → x_at f d (point i) q ≡ x_eval 28 salt paths sents e i q
     unfolding x_part correction_in
@@ -73,7 +66,7 @@ module _ (salt paths outs sents : List ℕ) (e i : ℕ) (keys : List ℕ) (held 
     pub evaluated : (r : ℕ) (v : Values) → r ≡ point i → ValuesOf h f d r v → Evaluated salt paths outs sents e i v
     evaluated r v er w =
         record {
-          hash-is = w.hash-is ∙ hash-is ∙ hash-standing leaves _ (lscom_in salt paths outs e i) room S com-is;
+          hash-is = w.hash-is ∙ hash-is ∙ ap (λ (t : List ℕ). shake128 t 32) hashed ∙ hash-standing _ (lscom_in salt paths outs e i) com-is;
           x-is = w.x-is ∙ ap (λ (r : ℕ). tab 56 (x_at f d r)) er ∙ tab-ext 56 _ _ x-at;
           u-is = w.u-is ∙ ap (λ (r : ℕ). tab 28 (u_at f r)) er ∙ tab-ext 28 _ _ u-at;
         }

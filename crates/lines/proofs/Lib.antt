@@ -1,4 +1,4 @@
 pub mod Leaf
-pub mod Stand
+pub mod Hashed
 pub mod Signer
 pub mod Checker

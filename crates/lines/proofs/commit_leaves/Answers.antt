@@ -1,17 +1,23 @@
 -- `lines::commit_leaves` meets its contract. Assumes nothing.
-use Rattle.std.proofs.Common.{arith}
-use Rattle.lines.proofs.Stand.{standing-start, standing-turn, standing-end, stands-start}
+use Rattle.std.proofs.Common.{sym, ap, ◌∙◌, arith}
+use Rattle.octets.specs.Lists.{joined}
+use Rattle.octets.proofs.Place.{place_none}
+use Rattle.lines.specs.Standing.{com_by, leaf_at}
+use Rattle.lines.proofs.Hashed.{hashed-turn, hashed-end}
 use Rattle.lines.proofs.commit_leaves.Goals as goal
 
 pub loop-i-init : goal.loop-i-init
-loop-i-init c = standing-start _ c.args.room.now _ c.requires.1 c.selector.ensures
+unfolding joined
+loop-i-init c = sym (place_none 1 _)
 
 pub loop-i-preserved : goal.loop-i-preserved
+unfolding leaf_at
 loop-i-preserved c =
-    let l = c.loop-i in
-    standing-turn _ _ l.i l.room _ c.requires.0 (omega arith) c.commit_leaf.ensures l.invariant
+    let a = c.args in
+    hashed-turn a.tree.now.keys a.leaves.now a.tree.now.keys_len (omega arith) c.loop-i.i _ _ _ _ (omega arith)
+    (c.commitment-c.ensures ∙ ap (com_by a.tree.now.keys) c.load-s.ensures) c.put.ensures c.loop-i.invariant
 
 pub returns : goal.returns
 returns c =
-    let l = c.loop-i in
-    stands-start _ c.args.room.now _ _ c.requires.1 (standing-end _ _ l.i l.room (omega arith) (omega arith) l.invariant)
+    let a = c.args in
+    hashed-end a.tree.now.keys a.leaves.now a.tree.now.keys_len (omega arith) c.loop-i.i _ _ a.hashed.now (omega arith) (omega arith) (omega arith) c.selector.ensures c.loop-i.invariant

@@ -6,8 +6,8 @@ use Rattle.lines.proofs.reveal.Goals as goal
 
 pub returns : goal.returns
 returns c =
-    let k = c.tree_keys-keys in
+    let a = c.args in
+    let k = c.new-tree in
     let o = c.open_tree-s in
-    λ mseed from. revealed mseed (block_of c.args.salt) c.args.x.now c.args.e k.result k.ensures
-    (block_of c.args.r) (length-block_of c.args.r) c.requires.1 from c.args.hidden _ _ (block_of o.result) _
-    c.load-d.ensures o.ensures.siblings o.ensures.leaf c.commitment.ensures
+    λ mseed from. revealed mseed (block_of a.salt) a.x.now a.e k.result.keys k.ensures (block_of a.r) _ (length-block_of a.r) c.requires.1 from c.load-d.ensures
+    a.hidden _ (block_of o.result) _ o.ensures.siblings o.ensures.leaf c.commitment.ensures
