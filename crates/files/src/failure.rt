@@ -7,13 +7,14 @@ use crate::numbers::print_number;
 use crate::writing::Unwritten;
 use std::io::Error;
 
-// E is what the library's call answers where it refuses.
-#[derive(Clone, Copy)]
+/// E is what the library's call answers where it refuses.
+#[derive(Clone, Copy, Debug, PartialEq, Eq)]
 pub enum Failure<E> {
-    // the number of words is not right, or a file can't be read
+    /// Number 1: the number of words is not right, or a file can't be read.
     Input,
+    /// The refusal's own number.
     Refused(E),
-    // the call's number is 0, and an output could not be written
+    /// Number 9: the call's number is 0, and an output could not be written.
     Unwritten,
 }
 
@@ -45,7 +46,7 @@ impl<E: Into<u8>> From<Failure<E>> for u8 {
     }
 }
 
-// Prints the number of what a program's run came to.
+/// Prints the number of what a program's run came to.
 pub fn print_outcome<R: Print, E: Into<u8>>(rt: &R, outcome: Result<(), Failure<E>>) {
     print_number(rt, outcome.map_or_else(u8::from, |()| 0));
 }

@@ -9,6 +9,10 @@ use std::str;
 // The longest name that the system takes.
 const LONGEST: usize = 4095;
 
+fn no_name(why: &str) -> Error {
+    Error::new(ErrorKind::InvalidFilename, why)
+}
+
 // A name with room for the dot and the six letters that make it a new file's.
 #[derive(Drop)]
 pub(crate) struct Name {
@@ -25,18 +29,12 @@ impl Name {
         let mut bytes = [0u8; 4102];
         match rt.arg(i, &mut bytes) {
             Ok(len @ 1..=LONGEST) => Ok(Name { bytes, len }),
-            _ => {
-                let message = "the name is empty or has more than 4,095 bytes";
-                Err(Error::new(ErrorKind::InvalidFilename, message))
-            }
+            _ => Err(no_name("the name is empty or has more than 4,095 bytes")),
         }
     }
 
     pub(crate) fn as_text(&self) -> Result<&str, Error> {
-        str::from_utf8(&self.bytes[..self.len]).map_err(|_| Error::new(
-            ErrorKind::InvalidFilename,
-            "the name is not UTF-8",
-        ))
+        str::from_utf8(&self.bytes[..self.len]).map_err(|_| no_name("the name is not UTF-8"))
     }
 
     // This name with a dot and six small letters behind it, drawn at random.

@@ -5,7 +5,7 @@ ghost use Rattle.files.specs.Files.{LineLong, IsLine, low_first};
 
 use io::decimal;
 
-// Puts n as a line at the start of out, and answers how many characters it has.
+// Puts n as a line at the start of out, and answers how many characters it has. println! would do, but no contract of it names the digits.
 fn line(n: u8, out: &mut [u8; 20]) -> usize
     ensures prefix_len { IsPrefixLen result out.new }
     ensures line { IsLine n result out.new }
@@ -15,7 +15,7 @@ fn line(n: u8, out: &mut [u8; 20]) -> usize
     k + 1
 }
 
-// Prints n as a line, and answers how many characters it has.
+/// Prints n as a line, and answers how many characters it has.
 pub fn print_number<R: Print>(rt: &R, n: u8) -> usize
     ensures { LineLong n result }
 {
@@ -25,7 +25,7 @@ pub fn print_number<R: Print>(rt: &R, n: u8) -> usize
     r
 }
 
-// Four bytes as a number, the low byte first.
+/// Four bytes as a number, the low byte first.
 pub fn low_first(b: &[u8; 4]) -> u32
     ensures { result ≡ low_first b.now }
 {

@@ -15,6 +15,7 @@ fn read_all<F: Read>(file: &mut F, buf: &mut [u8]) -> Result<usize, Error>
     ensures whole { IfOk result (λ n. n < length buf.new → IsAtEnd (F.remaining file.new)) }
 {
     let mut n = 0;
+    // no range counts these turns: each read says where the next begins
     while n < buf.len() {
         match file.read(&mut buf[n..])? {
             0 => break,
@@ -24,8 +25,8 @@ fn read_all<F: Read>(file: &mut F, buf: &mut [u8]) -> Result<usize, Error>
     Ok(n)
 }
 
-// Reads the file that argument i names, to its end or until the buffer is full, and answers how many bytes that are. A buffer one byte
-// longer than what is asked tells a file that is too long.
+/// Reads the file that argument i names, to its end or until the buffer is full, and answers how many bytes that are. A buffer one byte
+/// longer than what is asked tells a file that is too long.
 pub fn load<R: Env + Files>(rt: &R, i: usize, buf: &mut [u8]) -> Result<usize, Error>
     ensures prefix_len { IfOk result (λ n. IsPrefixLen n buf.new) }
     ensures loading { Loading (is_ok result) (count_of result) (length buf.new) }
@@ -35,7 +36,7 @@ pub fn load<R: Env + Files>(rt: &R, i: usize, buf: &mut [u8]) -> Result<usize, E
     read_all(&mut file, buf)
 }
 
-// What load read.
+/// What load read.
 pub fn read<'a, R: Env + Files>(rt: &R, i: usize, buf: &'a mut [u8]) -> Result<&'a [u8], Error>
     ensures { IfOk result (λ part. length part.now ≤ length buf.old) }
 {

@@ -5,21 +5,21 @@ use std::env::FillError;
 use std::io::{Error, ErrorKind};
 use std::rt::Env;
 
-// How many words the program was started with, its own name among them.
+/// How many words the program was started with, its own name among them.
 pub fn word_count<R: Env>(rt: &R) -> usize {
     (0..usize::MAX)
         .find(|&i| matches!(rt.arg(i, &mut []), Err(FillError::NotPresent)))
         .unwrap_or(usize::MAX)
 }
 
-// Whether all words, the program's own name among them, are that name and n more.
+/// Whether all words, the program's own name among them, are that name and n more.
 pub fn given(all: usize, n: usize) -> bool
     ensures { result ≡ eqb all (n + 1) }
 {
     all.checked_sub(1) == Some(n)
 }
 
-// An error where the program was not started with n words behind its name.
+/// An error where the program was not started with n words behind its name.
 pub fn expect_words<R: Env>(rt: &R, n: usize) -> Result<(), Error> {
     if !given(word_count(rt), n) {
         return Err(Error::from(ErrorKind::InvalidInput));

@@ -3,7 +3,7 @@ ghost use Rattle.std.specs.Prelude.{◌≡◌, ◌≤◌};
 ghost use Rattle.files.specs.Files.{Storing, number_of_storing};
 
 use crate::names::Name;
-use std::fs::{File, OpenFile, OpenOptions, Permissions};
+use std::fs::{OpenFile, OpenOptions, Permissions};
 use std::io::{Error, ErrorKind, Write};
 use std::os::unix::fs::{OpenOptionsExt, PermissionsExt};
 use std::random::RandomSource;
@@ -17,8 +17,8 @@ const FOR_THE_OWNER: u32 = 0o600;
 // How many names a new file may find taken.
 const TRIES: usize = 256;
 
-// The call's number is 0, and an output could not be written. Standard error has the reason.
-#[derive(Clone, Copy)]
+/// The call's number is 0, and an output could not be written. Standard error has the reason.
+#[derive(Clone, Copy, Debug, PartialEq, Eq)]
 pub struct Unwritten;
 
 // 9 stands in no table of the library.
@@ -30,7 +30,7 @@ impl From<Unwritten> for u8 {
     }
 }
 
-// A word as text for the reader of an error, with a sign in place of what is not UTF-8.
+// A word as text for the reader of an error, with a sign in place of what is not UTF-8: std's own lossy text takes memory from a heap.
 #[derive(Drop)]
 struct Shown<'a>(&'a [u8]);
 
@@ -46,7 +46,7 @@ impl fmt::Display for Shown<'_> {
     }
 }
 
-// Writes a line to standard error: argument i, a colon and the reason. No more than 4,103 bytes are a word worth showing.
+// Writes a line to standard error: argument i, a colon and the reason. Of an argument above 4,103 bytes nothing is shown.
 fn tell<R: Env + Eprint>(rt: &R, i: usize, reason: Error) -> Unwritten {
     let mut word = [0u8; 4103];
     let n = rt.arg(i, &mut word).unwrap_or(0);
@@ -142,7 +142,7 @@ fn settle<R: Env + Files + Eprint>(rt: &R, i: usize, made: &Name) -> Result<(), 
     })
 }
 
-// Makes the file that argument i names hold these bytes, and be readable by all.
+/// Makes the file that argument i names hold these bytes, and be readable by all.
 pub fn store<R: Env + Files + RandomSource + Eprint>(
     rt: &R,
     i: usize,
@@ -162,8 +162,8 @@ fn same_name<R: Env>(rt: &R, i: usize, j: usize) -> bool {
     a[..n] == b[..m]
 }
 
-// Stores a public key, readable by all, and its secret key, readable by its owner alone. Both are whole before either takes its name.
-// The secret key comes first: it carries the public one, so a stop between the two loses nothing.
+/// Stores a public key, readable by all, and its secret key, readable by its owner alone. Both are whole before either takes its name.
+/// The secret key comes first: it carries the public one, so a stop between the two loses nothing.
 pub fn store_keys<R: Env + Files + RandomSource + Eprint>(
     rt: &R,
     public: usize,

@@ -17,9 +17,8 @@ fn run<R: Env + Files + RandomSource + Eprint>(rt: &R) -> Result<(), Failure<u8>
     let mut mseed = [0u8; 17];
     let mseed = files::read(rt, 4, &mut mseed)?;
     let mut tries = [0u8; 5];
-    let Ok(tries) = files::read(rt, 5, &mut tries)?.try_into() else {
-        return Err(Failure::Input);
-    };
+    let tries = files::read(rt, 5, &mut tries)?;
+    let tries = tries.as_array::<4>().ok_or(Failure::Input)?;
     let mut sig = [0u8; 3484];
     let mut work = [0u8; 65536];
     let n = mqom::sign(
