@@ -1,10 +1,11 @@
 // The workspace: where things stand in it, and what signing and checking do with it alike.
 #![tactic(auto)]
 
-ghost use Rattle.std.specs.Prelude.{◌≡◌, [], ◌∷◌, ◌+◌, ◌*◌, ◌<◌, length};
+ghost use Rattle.std.specs.Prelude.{◌≡◌, [], ◌∷◌, ◌+◌, ◌-◌, ◌*◌, ◌<◌, ◌≤◌, length};
 ghost use Rattle.octets.specs.Lists.{part};
 ghost use Rattle.octets.specs.Place.{place};
 ghost use Rattle.paper.specs.Symmetric.{hash as hash_of, selector as selector_of, for_alphas, for_commitment};
+ghost use Rattle.seeds.specs.Purpose.{place_of};
 ghost use Rattle.workspace.specs.Map.{at_vectors, at_tree, at_com1, at_hashes, at_com2, at_alpha0, at_alpha1};
 
 use seeds::Purpose;
@@ -65,14 +66,23 @@ pub fn keep_hash(work: &mut [u8], e: usize, h: [u8; 32])
     octets::put(&h, work, HASHES + 32 * e);
 }
 
+// The purpose's selector is put at `at`, and what stands there up to the end is hashed.
+fn commitment(work: &mut [u8], at: usize, end: usize, purpose: Purpose) -> [u8; 32]
+    requires { (at < end) × (end ≤ length work.old) }
+    ensures hash { result ≡ hash_of (place_of purpose) (part (at + 1) (end - at - 1) work.old) }
+    ensures rest { work.new ≡ place at (selector_of (place_of purpose) ∷ []) work.old }
+{
+    work[at] = purpose.selector();
+    shake::hash32(&work[at..end])
+}
+
 // com_1: Hash_7 of the hashes and the corrections.
 pub fn first_commitment(work: &mut [u8]) -> [u8; 32]
     requires { length work.old ≡ 65536 }
     ensures hash { result ≡ hash_of for_commitment (part at_hashes 748 work.old) }
     ensures rest { work.new ≡ place at_com1 (selector_of for_commitment ∷ []) work.old }
 {
-    work[COM1] = Purpose::Commitment.selector();
-    shake::hash32(&work[COM1..COM1_END])
+    commitment(work, COM1, COM1_END, Purpose::Commitment)
 }
 
 // com_2: Hash_3 of alpha_0 and alpha_1.
@@ -81,6 +91,5 @@ pub fn second_commitment(work: &mut [u8]) -> [u8; 32]
     ensures hash { result ≡ hash_of for_alphas (part at_alpha0 952 work.old) }
     ensures rest { work.new ≡ place at_com2 (selector_of for_alphas ∷ []) work.old }
 {
-    work[COM2] = Purpose::Alphas.selector();
-    shake::hash32(&work[COM2..COM2_END])
+    commitment(work, COM2, COM2_END, Purpose::Alphas)
 }
