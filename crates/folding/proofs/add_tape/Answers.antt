@@ -9,4 +9,4 @@ returns c =
     let s = c.args in
     let rows = c.split_at_mut-acc in
     tape-added s.f.now s.r s.p (omega arith) (omega arith) c.requires c.add.new.dst rows.result.1.now c.add-2.new.dst _
-        (c.add.ensures ∙ ap (λ l. xor_b l s.r) rows.ensures.front) rows.ensures.back (omega arith) c.add-2.ensures
+    (c.add.ensures ∙ ap (λ l. xor_b l s.r) rows.ensures.front) rows.ensures.back (omega arith) c.add-2.ensures

@@ -8,8 +8,7 @@ loop-j-init t c = (c.row-r.type_inv, λ g h. horner-start g _ (h 7 _ (omega arit
 
 pub loop-j-preserved : goal.loop-j-preserved
 loop-j-preserved t c =
-    let l = c.loop-j in
-    (
+    let l = c.loop-j in (
       horner-byte l.r _ c.row.result c.times_root.ensures c.row.type_inv,
       λ g h. horner-turn g l.j l.r _ _ _ (omega arith) (omega arith) c.times_root.ensures (h (l.j - 1) _ (omega arith) c.row.ensures) (l.invariant.1 g h),
     )
