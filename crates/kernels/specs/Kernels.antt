@@ -14,7 +14,7 @@ unfoldable pub each_block : List ℕ → List ℕ → List ℕ
 each_block w l = joined (length l / 16) (λ i. cipher w (part (16 * i) 16 l))
 
 -- a key and whole blocks
-unfoldable pub fits : ℕ → ℕ → Bool
+abbrev pub fits : ℕ → ℕ → Bool
 fits k n = eqb k 16 && eqb (n % 16) 0
 
 pub record Encrypts (key buf : List ℕ) (r : ℕ) (after : List ℕ) : Type 0 where
@@ -23,12 +23,12 @@ pub record Encrypts (key buf : List ℕ) (r : ℕ) (after : List ℕ) : Type 0 w
 
 -- ---- kernels_dot
 
-unfoldable pub dot_or256 : List ℕ → List ℕ → ℕ
+abbrev pub dot_or256 : List ℕ → List ℕ → ℕ
 dot_or256 a b = cond (eqb (length a) (length b)) (dot (length a) (vec a) (vec b)) 256
 
 -- ---- kernels_add_scaled
 
-unfoldable pub add_scaled : List ℕ → ℕ → List ℕ → List ℕ
+abbrev pub add_scaled : List ℕ → ℕ → List ℕ → List ℕ
 add_scaled d w s = tab (length d) (λ i. vec d i ⊕ (w ⊗ vec s i))
 
 pub record AddsScaled (d : List ℕ) (w : ℕ) (s : List ℕ) (r : ℕ) (after : List ℕ) : Type 0 where
