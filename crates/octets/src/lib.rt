@@ -1,4 +1,4 @@
-// Buffers of bytes: clear, fill, copy, put, compare.
+// Buffers of bytes: clear, fill, put, compare.
 #![tactic(auto)]
 
 ghost use Rattle.std.specs.Prelude.{◌≡◌, ◌+◌, ◌≤◌, length, replicate};
@@ -17,14 +17,6 @@ pub fn clear(buf: &mut [u8])
     ensures { buf.new ≡ replicate (length buf.old) 0 }
 {
     fill(buf, 0);
-}
-
-// dst holds src afterwards.
-pub fn copy(src: &[u8], dst: &mut [u8])
-    requires { length src.now ≡ length dst.old }
-    ensures { dst.new ≡ src.now }
-{
-    dst.copy_from_slice(src);
 }
 
 // text is written into out from place at on.
