@@ -2,7 +2,7 @@
 ghost use Rattle.std.specs.Prelude.{◌≡◌, ◌≤◌};
 ghost use Rattle.files.specs.Files.{Storing, number_of_storing};
 
-use crate::names::Name;
+use crate::names::{LONGEST, Name};
 use std::fs::{OpenFile, OpenOptions, Permissions};
 use std::io::{Error, ErrorKind, Write};
 use std::os::unix::fs::{OpenOptionsExt, PermissionsExt};
@@ -76,7 +76,7 @@ fn create<R: Files>(rt: &R, name: &Name) -> Result<R::File, Error> {
 
 // Opens a new file beside the named one, and answers its name too.
 fn create_beside<R: Files + RandomSource>(rt: &R, name: &Name) -> Result<(R::File, Name), Error>
-    requires { name.now.len ≤ 4095 }
+    requires { name.now.len ≤ LONGEST }
 {
     for _ in 0..TRIES {
         let drawn = name.drawn(rt)?;
