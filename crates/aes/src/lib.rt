@@ -163,7 +163,7 @@ fn next_key(t: &Tables, k: Cols, rc: u8) -> Cols
     Cols { a, b, c, d }
 }
 
-impl Tables {
+impl Tables<'_> {
     // The expanded key.
     pub fn expand(&self, key: Cols) -> [u8; 176]
         ensures { result ≡ expand_key (block_of key) }

@@ -4,8 +4,6 @@ ghost use Rattle.octets.specs.Lists.{bytes_of};
 ghost use Rattle.aes.specs.Sbox.{sbox};
 ghost use Rattle.aes.specs.Words.{spread, Table};
 
-use std::array;
-
 // sbox x at each x: the inverse in K and then the affine map (5.1.1).
 const SBOX: [u8; 256] = [
     0x63, 0x7c, 0x77, 0x7b, 0xf2, 0x6b, 0x6f, 0xc5, 0x30, 0x01, 0x67, 0x2b, 0xfe, 0xd7, 0xab, 0x76,
@@ -45,17 +43,24 @@ fn made(m: usize) -> u32
     entry(m / 256, SBOX[m % 256])
 }
 
-// What the rounds and the key schedule read: made once, and lent to each call that works with the cipher.
-#[derive(Drop)]
-pub struct Tables {
-    pub words: [u32; 1024],
-    pub ghost made: { Table words },
+fn fill(words: &mut [u32; 1024])
+    ensures { Table words.new }
+{
+    for m in 0..1024usize {
+        words[m] = made(m);
+    }
 }
 
-impl Tables {
-    pub fn new() -> Tables {
-        Tables {
-            words: array::from_fn(made),
-        }
+// What the rounds and the key schedule read, in memory that the caller lends: made once, for all that works with the cipher.
+#[derive(Clone, Copy)]
+pub struct Tables<'a> {
+    pub(crate) words: &'a [u32; 1024],
+    ghost made: { Table words.now },
+}
+
+impl<'a> Tables<'a> {
+    pub fn new(words: &'a mut [u32; 1024]) -> Tables<'a> {
+        fill(words);
+        Tables { words }
     }
 }

@@ -3,4 +3,4 @@ use Rattle.aes.proofs.Rounds.{sub-law}
 use Rattle.aes.proofs.sub_at.Goals as goal
 
 pub returns : goal.returns
-returns c = sub-law c.args.t.now.words c.args.t.now.made c.args.x c.requires
+returns c = sub-law c.args.t.now.words.now c.args.t.now.made c.args.x c.requires
