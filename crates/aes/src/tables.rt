@@ -46,8 +46,8 @@ fn made(m: usize) -> u32
 fn fill(words: &mut [u32; 1024])
     ensures { Table words.new }
 {
-    for m in 0..1024usize {
-        words[m] = made(m);
+    for (m, word) in words.iter_mut().enumerate() {
+        *word = made(m);
     }
 }
 

@@ -145,7 +145,8 @@ pub fn verify(pk: &[u8], msg: &[u8], sig: &[u8], work: &mut [u8]) -> bool
     if !transcript::passes(&c) {
         return false;
     }
-    let t = Tables::new();
+    let mut words = [0u32; 1024];
+    let t = Tables::new(&mut words);
     if !evaluate(&t, sig, &c, work) {
         return false;
     }

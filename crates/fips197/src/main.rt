@@ -81,7 +81,8 @@ fn appendix_c(rt: &impl Print, t: &Tables) -> io::Result<()> {
 }
 
 fn main(rt: HostRuntime) -> io::Result<()> {
-    let t = Tables::new();
+    let mut words = [0u32; 1024];
+    let t = Tables::new(&mut words);
     appendix_a_b(&rt, &t)?;
     appendix_c(&rt, &t)?;
     chains(&rt, &t)

@@ -32,7 +32,8 @@ pub extern "C" fn kernels_encrypt(key: &[u8], buf: &mut [u8]) -> u8
     if buf.len() % 16 != 0 {
         return 1;
     }
-    let t = Tables::new();
+    let mut words = [0u32; 1024];
+    let t = Tables::new(&mut words);
     let w = t.expand(aes::load(key, 0));
     each_block(&t, &w, buf);
     0

@@ -66,7 +66,8 @@ pub fn make_keys(seed: &[u8], pk: &mut [u8], sk: &mut [u8], work: &mut [u8])
     ensures public { pk.new ≡ (key_gen seed.now).pk }
     ensures secret { sk.new ≡ (key_gen seed.now).sk }
 {
-    let t = Tables::new();
+    let mut words = [0u32; 1024];
+    let t = Tables::new(&mut words);
     seeds::plain_keys(&t, &mut work[0..18304]);
     let k = draw(seed);
     put_public(&t, &work[0..18304], &k, pk);

@@ -243,7 +243,8 @@ pub fn sign(
     requires { (length sk.now ≡ 88) × (length salt.now ≡ 16) × (length mseed.now ≡ 16) × (length sig.old ≡ 3484) × (length work.old ≡ 65536) }
     ensures { Signed sk.now msg.now salt.now mseed.now tries sig.old (number_of result) sig.new }
 {
-    let t = Tables::new();
+    let mut words = [0u32; 1024];
+    let t = Tables::new(&mut words);
     if !prepare(&t, sk, salt, mseed, work) {
         return Err(Refused::Unsatisfied);
     }
