@@ -1,8 +1,9 @@
 -- The rows of a triangular matrix, one after the other, as one list; an equation's value as one sum. Assumes nothing.
 use mathlib.Core.Path.{◌≡◌, refl, sym, ap, ap₂, ◌∙◌}
 use mathlib.Core.List.{List}
-use Prim.Native.Nat.{ℕ, zero, suc, ◌+◌, ◌<◌, ◌≤◌}
-use native.Mathlib.Nat.{zero-add}
+use Prim.Native.Nat.{ℕ, zero, suc, ◌+◌, ◌*◌, ◌<◌, ◌≤◌}
+use native.Mathlib.Nat.{zero-add, mul-suc, suc-mul}
+use native.Mathlib.Numerals.{add-one}
 use native.Mathlib.Omega.{arith}
 use borrow.Author.Count.{below_more}
 use lib.ListN.{length}
@@ -20,6 +21,14 @@ use Rattle.equations.specs.Put.{Put, Monomials}
 pub row_count : row_start 56 ≡ 1596
 unfolding row_start
 row_count = refl
+
+row_double : (j : ℕ) → row_start j + row_start j ≡ j * suc j
+unfolding row_start
+row_double zero = refl
+row_double (suc j) = omega (arith, row_double j, mul-suc (suc j) (suc j), suc-mul j (suc j))
+
+pub row_half : (j : ℕ) → j * (j + 1) ≡ row_start j + row_start j
+row_half j = ap (j *◌) (add-one j) ∙ sym (row_double j)
 
 -- row j ends before b starts
 pub row_room : (j : ℕ) → j < 56 → row_start j + (j + 1) ≤ 1596
@@ -62,15 +71,15 @@ pub filled-start : (x : ℕ → ℕ) (d w : List ℕ) → Put d 56 (λ k. 1596 +
 filled-start x d w p =
     record { pairs = λ j k h. absurd (omega arith); ones = λ j h. ap (λ (n : ℕ). vec w (n + j)) row_count ∙ p.here j h }
 
-pub filled-turn : (x : ℕ → ℕ) (j row : ℕ) (w w' : List ℕ) → j < 56 → row ≡ row_start j → Filled x j w
-    → Put w (suc j) (λ k. row + k) (λ k. x k ⊗ x j) w' → Filled x (j + 1) w'
-filled-turn x j row w w' hj e f p =
+pub filled-turn : (x : ℕ → ℕ) (j : ℕ) (w w' : List ℕ) → j < 56 → Filled x j w
+    → Put w (suc j) (λ k. row_start j + k) (λ k. x k ⊗ x j) w' → Filled x (j + 1) w'
+filled-turn x j w w' hj f p =
     record {
       pairs =
           λ i k hi hk.
           below_more (λ (i : ℕ). (k : ℕ) → k < suc i → vec w' (row_start i + k) ≡ x k ⊗ x i) j
           (λ i hi k hk. p.others (row_start i + k) (λ n hn q. omega (arith, row_fits i j hi)) ∙ f.pairs i k hi hk)
-          (λ k hk. ap (λ (o : ℕ). vec w' (o + k)) (sym e) ∙ p.here k hk)
+          (λ k hk. p.here k hk)
           i hi k hk;
       ones = λ i hi. p.others (row_start 56 + i) (λ n hn q. omega (arith, row_room j hj, row_count)) ∙ f.ones i hi;
     }

@@ -1,8 +1,7 @@
--- Lane-by-lane products by the digits of one factor: the loops of `add_product` and `add_cross`. Assumes nothing.
-use mathlib.Core.Path.{◌≡◌, sym, ap, ap₂, ◌∙◌}
+-- Lane-by-lane products by the digits of one factor: the loop of `add_digits`. Assumes nothing.
+use mathlib.Core.Path.{◌≡◌, refl, sym, ap, ap₂, ◌∙◌}
 use mathlib.Core.List.{List}
 use Prim.Native.Nat.{ℕ, ◌+◌, ◌*◌, ◌<◌}
-use native.Mathlib.Nat.{add_assoc}
 use native.Mathlib.Omega.{arith}
 use lib.Bits.{bit_and}
 use lib.ListN.{length}
@@ -11,7 +10,7 @@ use Rattle.octets.specs.Lists.{vec, view, tab}
 use Rattle.octets.proofs.Tab.{is-tab, tab-ext, vec-tab}
 use Rattle.field.specs.Gf.{◌⊗◌, times_root}
 use Rattle.field.proofs.Sum.{sum-⊕}
-use Rattle.equations.specs.Lanes.{Masks, times_power}
+use Rattle.equations.specs.Lanes.{Masks, times_power, by_digits}
 use Rattle.equations.proofs.Digits.{power_zero, power-suc, masked-product}
 use Rattle.equations.proofs.Rows.{sofar, sofar-turn, sofar-end}
 
@@ -32,39 +31,45 @@ unfolding powers
 powers-turn t x y b e q =
     q ∙ tab-ext 24 _ _ (λ l h. ap (times_root 7 0x1b) (vec-powers t x b l e h) ∙ power-suc b (vec t l))
 
-module _ (m : List ℕ) (k : ℕ) (t : List ℕ) where
-  -- digit b's part of t times vector k
-  unfoldable pub under : ℕ → ℕ → ℕ
-  under b l = bit_and (times_power b (vec t l)) (view m (192 * k) (24 * b + l))
+module _ (f : ℕ → ℕ → ℕ → ℕ → ℕ) (m : List ℕ) (k : ℕ) (t z : List ℕ) where
+  -- digit b's part
+  unfoldable pub digit_part : ℕ → ℕ → ℕ
+  digit_part b l = f (times_power b (vec t l)) (times_power b (vec t 17)) (view m (192 * k) (24 * b + l)) (view m (192 * k) (24 * b + 17))
 
-  -- digit b's part of t times lane 17 of vector k, and of lane 17 of t times vector k
-  unfoldable pub across : ℕ → ℕ → ℕ
-  across b l = bit_and (times_power b (vec t l)) (view m (192 * k) (24 * b + 17)) ⊕ bit_and (times_power b (vec t 17)) (view m (192 * k) (24 * b + l))
+  pub digits-turn : (x r s : List ℕ) (b p : ℕ) → p ≡ 192 * k + 24 * b → x ≡ powers t b → r ≡ sofar 24 (vec z) digit_part b
+      → s ≡ tab 24 (λ l. vec r l ⊕ f (vec x l) (vec x 17) (view m p l) (view m p 17)) → s ≡ sofar 24 (vec z) digit_part (b + 1)
+  unfolding digit_part
+  digits-turn x r s b p at e h q = q ∙ sofar-turn 24 (vec z) digit_part r _ b h one
+    where
+      mask : (l : ℕ) → view m p l ≡ view m (192 * k) (24 * b + l)
+      mask l = ap (vec m) (omega arith)
 
-module _ (m : List ℕ) (k : ℕ) (t z x r s : List ℕ) (b : ℕ) (e : x ≡ powers t b) where
-  one : (l i : ℕ) → l < 24 → bit_and (vec x l) (view m (192 * k + 24 * b) i) ≡ bit_and (times_power b (vec t l)) (view m (192 * k) (24 * b + i))
-  one l i h = ap₂ bit_and (vec-powers t x b l e h) (ap (vec m) (add_assoc (192 * k) (24 * b) i))
+      one : (l : ℕ) → l < 24 → f (vec x l) (vec x 17) (view m p l) (view m p 17) ≡ digit_part b l
+      one l hl =
+          ap₂ (λ (u w : ℕ). f u w (view m p l) (view m p 17)) (vec-powers t x b l e hl) (vec-powers t x b 17 e (omega arith))
+          ∙ ap₂ (f (times_power b (vec t l)) (times_power b (vec t 17))) (mask l) (mask 17)
 
-  pub under-turn : r ≡ sofar 24 (vec z) (under m k t) b → s ≡ tab 24 (λ l. vec r l ⊕ bit_and (vec x l) (view m (192 * k + 24 * b) l))
-      → s ≡ sofar 24 (vec z) (under m k t) (b + 1)
-  unfolding under
-  under-turn p q = q ∙ sofar-turn 24 (vec z) (under m k t) r _ b p (λ l h. one l l h)
+  pub digits-end : (r : List ℕ) (b : ℕ) → b ≡ 8 → r ≡ sofar 24 (vec z) digit_part b → r ≡ tab 24 (λ l. vec z l ⊕ by_digits f m k t l)
+  unfolding by_digits digit_part
+  digits-end r b e p = sofar-end 24 (vec z) digit_part r b 8 _ e p (λ l h. refl)
 
-  pub across-turn : r ≡ sofar 24 (vec z) (across m k t) b
-      → s ≡ tab 24 (λ l. vec r l ⊕ (bit_and (vec x l) (view m (192 * k + 24 * b) 17) ⊕ bit_and (vec x 17) (view m (192 * k + 24 * b) l)))
-      → s ≡ sofar 24 (vec z) (across m k t) (b + 1)
-  unfolding across
-  across-turn p q = q ∙ sofar-turn 24 (vec z) (across m k t) r _ b p (λ l h. ap₂ ◌⊕◌ (one l 17 h) (one 17 l (omega arith)))
+-- of t times vector k
+abbrev pub product : ℕ → ℕ → ℕ → ℕ → ℕ
+product x x17 y y17 = bit_and x y
 
-module _ (m : List ℕ) (k : ℕ) (t z r : List ℕ) (b : ℕ) (e : b ≡ 8) (hk : k < 57) (v : ℕ → ℕ → ℕ) (masks : Masks m v) where
-  pub under-end : r ≡ sofar 24 (vec z) (under m k t) b → r ≡ tab 24 (λ l. vec z l ⊕ (vec t l ⊗ v k l))
-  unfolding under
-  under-end p = sofar-end 24 (vec z) (under m k t) r b 8 _ e p (λ l h. ap (vec z l ⊕◌) (masked-product m v masks k l hk h (vec t l)))
+-- of t times lane 17 of vector k, and lane 17 of t times vector k
+abbrev pub cross : ℕ → ℕ → ℕ → ℕ → ℕ
+cross x x17 y y17 = bit_and x y17 ⊕ bit_and x17 y
 
-  pub across-end : r ≡ sofar 24 (vec z) (across m k t) b → r ≡ tab 24 (λ l. vec z l ⊕ ((vec t l ⊗ v k 17) ⊕ (vec t 17 ⊗ v k l)))
-  unfolding across
-  across-end p =
-      sofar-end 24 (vec z) (across m k t) r b 8 _ e p
+module _ (m : List ℕ) (k : ℕ) (t z : List ℕ) (hk : k < 57) (v : ℕ → ℕ → ℕ) (masks : Masks m v) where
+  pub product-is : tab 24 (λ l. vec z l ⊕ by_digits product m k t l) ≡ tab 24 (λ l. vec z l ⊕ (vec t l ⊗ v k l))
+  unfolding by_digits
+  product-is = tab-ext 24 _ _ (λ l h. ap (vec z l ⊕◌) (masked-product m v masks k l hk h (vec t l)))
+
+  pub cross-is : tab 24 (λ l. vec z l ⊕ by_digits cross m k t l) ≡ tab 24 (λ l. vec z l ⊕ ((vec t l ⊗ v k 17) ⊕ (vec t 17 ⊗ v k l)))
+  unfolding by_digits
+  cross-is =
+      tab-ext 24 _ _
       (λ l h.
       ap (vec z l ⊕◌)
       (sum-⊕ 8 (λ b. bit_and (times_power b (vec t l)) (view m (192 * k) (24 * b + 17))) (λ b. bit_and (times_power b (vec t 17)) (view m (192 * k) (24 * b + l)))

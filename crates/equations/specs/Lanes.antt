@@ -37,6 +37,11 @@ times_power (suc b) x = times_root 7 0x1b (times_power b x)
 unfoldable pub folded : List ℕ → ℕ → ℕ
 folded a l = sum 8 (λ b. times_power b (vec a (24 * b + l)))
 
+-- the sum over the digits b of f, at lanes l and 17 of ξ^b t and at the masks of digit b in lanes l and 17 of vector k
+unfoldable pub by_digits : (ℕ → ℕ → ℕ → ℕ → ℕ) → List ℕ → ℕ → List ℕ → ℕ → ℕ
+by_digits f m k t l =
+    sum 8 (λ b. f (times_power b (vec t l)) (times_power b (vec t 17)) (view m (192 * k) (24 * b + l)) (view m (192 * k) (24 * b + 17)))
+
 -- ---- an equation that lies in q, on the vectors v
 
 -- element j of A v + b r, of an equation (ComputePz, lines 2 and 3; ComputePzEval, line 2)

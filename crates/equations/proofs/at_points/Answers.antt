@@ -1,37 +1,22 @@
 -- `equations::at_points` meets its contract: before turn j the value's part and the first j rows are added. Assumes nothing.
-use mathlib.Core.Path.{sym, ap, ◌∙◌}
-use Prim.Native.Nat.{ℕ, ◌+◌}
 use native.Mathlib.Omega.{arith}
-use Rattle.field.proofs.Loops.{row_zero, row-turn}
-use Rattle.equations.proofs.Flat.{row_room}
 use Rattle.equations.proofs.Evals.{of_value, eval-start, eval-turn, eval-end}
 use Rattle.equations.proofs.at_points.Goals as goal
 
 pub loop-j-init : goal.loop-j-init
 loop-j-init c =
-    let s = c.args in (
-      sym row_zero,
-      λ v h. eval-start s.q.now v _ _ s.y (c.scaled-u.ensures v h) (c.add_product.ensures v h),
-    )
-
-pub overflow_add-row-in-loop-j : goal.overflow_add-row-in-loop-j
-overflow_add-row-in-loop-j c =
-    let l = c.loop-j in
-    let r = row_room l.j (omega arith) in
-    record { fits = omega arith }
+    let s = c.args in
+    λ v h. eval-start s.q.now v _ _ s.y (c.scaled-u.ensures v h) (c.add_product.ensures v h)
 
 pub loop-j-preserved : goal.loop-j-preserved
 loop-j-preserved c =
     let s = c.args in
-    let l = c.loop-j in (
-      ap (λ (r : ℕ). r + (l.j + 1)) l.invariant.0 ∙ sym (row-turn l.j),
-      λ v h.
-          eval-turn s.q.now v (of_value s.q.now v s.y) l.z _ _ l.j (l.invariant.1 v h)
-          (c.row_value.ensures v h) (c.add_product-in-loop-j.ensures v h),
-    )
+    let l = c.loop-j in
+    λ v h.
+    eval-turn s.q.now v (of_value s.q.now v s.y) l.z _ _ l.j (l.invariant v h) (c.row_value.ensures v h) (c.add_product-in-loop-j.ensures v h)
 
 pub returns : goal.returns
 returns c =
     let s = c.args in
     let l = c.loop-j in
-    λ v h. eval-end s.q.now v l.z s.y l.j (omega arith) (l.invariant.1 v h)
+    λ v h. eval-end s.q.now v l.z s.y l.j (omega arith) (l.invariant v h)

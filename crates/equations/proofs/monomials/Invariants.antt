@@ -2,9 +2,8 @@
 use mathlib.Core.Path.{◌≡◌}
 use lib.ListN.{length}
 use Rattle.octets.specs.Lists.{vec}
-use Rattle.field.specs.Vec.{row_start}
 use Rattle.equations.proofs.Flat.{Filled}
 use Rattle.equations.proofs.monomials.Given as goal
 
 abbrev pub invariant-loop-j : goal.invariant-loop-j
-invariant-loop-j l = (length l.w ≡ 1652) × (l.row ≡ row_start l.j) × Filled (vec l.u) l.j l.w
+invariant-loop-j l = (length l.w ≡ 1652) × Filled (vec l.u) l.j l.w

@@ -1,6 +1,10 @@
 -- `equations::put_row` meets its contract: before turn i the first i products are written. Assumes nothing.
-use mathlib.Core.Path.{◌∙◌}
+use mathlib.Core.Path.{subst, ◌∙◌}
+use Prim.Native.Nat.{ℕ, suc, ◌+◌}
 use native.Mathlib.Omega.{arith}
+use Rattle.octets.specs.Lists.{vec}
+use Rattle.field.specs.Gf.{◌⊗◌}
+use Rattle.equations.specs.Put.{Put}
 use Rattle.equations.proofs.Put.{put-turn, put-end}
 use Rattle.field.proofs.Field.{⊗-comm}
 use Rattle.equations.proofs.Flat.{row_room}
@@ -22,4 +26,5 @@ loop-i-preserved c =
 pub returns : goal.returns
 returns c =
     let l = c.loop-i in
-    put-end _ l.i _ _ _ l.w (omega arith) (omega arith) l.invariant
+    subst (λ (r : ℕ). Put c.args.w.now (suc c.args.j) (λ k. r + k) (λ k. vec c.args.x k ⊗ vec c.args.x c.args.j) l.w) c.row_start-row.ensures
+    (put-end _ l.i _ _ _ l.w (omega arith) (omega arith) l.invariant)

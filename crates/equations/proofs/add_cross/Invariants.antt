@@ -1,9 +1,0 @@
--- `equations::add_cross` meets its contract: before digit b the parts of the digits below it are added. Assumes nothing.
-use mathlib.Core.Path.{◌≡◌}
-use Rattle.octets.specs.Lists.{vec}
-use Rattle.equations.proofs.Rows.{sofar}
-use Rattle.equations.proofs.Products.{powers, across}
-use Rattle.equations.proofs.add_cross.Given as goal
-
-abbrev pub invariant-loop-b : goal.invariant-loop-b
-invariant-loop-b l = (l.x ≡ powers l.initial.x l.b) × (l.z ≡ sofar 24 (vec l.initial.z) (across l.m l.k l.initial.x) l.b)
