@@ -3,9 +3,10 @@
 #![tactic(auto)]
 
 use files::Failure;
+use mqom::Refusal;
 use std::rt::{Env, Files};
 
-fn run<R: Env + Files>(rt: &R) -> Result<(), Failure<u8>> {
+fn run<R: Env + Files>(rt: &R) -> Result<(), Failure<Refusal>> {
     files::expect_words(rt, 3)?;
     let mut pk = [0u8; 61];
     let pk = files::read(rt, 1, &mut pk)?;
@@ -14,10 +15,7 @@ fn run<R: Env + Files>(rt: &R) -> Result<(), Failure<u8>> {
     let mut sig = [0u8; 3485];
     let sig = files::read(rt, 3, &mut sig)?;
     let mut work = [0u8; 65536];
-    match mqom::check(pk, msg, sig, &mut work) {
-        0 => Ok(()),
-        n => Err(Failure::Refused(n)),
-    }
+    mqom::check(pk, msg, sig, &mut work).map_err(Failure::Refused)
 }
 
 fn main(rt: HostRuntime) {

@@ -9,18 +9,29 @@ use lib.ListN.{length, replicate}
 use Rattle.paper.specs.Keys.{key_gen, satisfied}
 use Rattle.paper.specs.Alpha.{r3}
 use Rattle.paper.specs.Scheme.{sign_of}
+use Rattle.std.specs.Prelude.{Result, Err}
+use Rattle.mqom.specs.declared.Refusal.{Refusal}
+use Rattle.mqom.specs.declared.Refusal.TheVariants.{Length}
+use Rattle.mqom.specs.Answer.{number_of_answer}
+use Rattle.signer.specs.Written.{Signed}
 use Rattle.mqom.specs.Outcome.{refused, failed, done}
 use Rattle.mqom.specs.Calls.{keygen_all, sign_all, check_all, MakesKeys, SignsMessage, ChecksSignature}
 use Rattle.mqom.specs.Words.{KeygenSized, SignSized, Fits, TriesWithin}
 use Rattle.mqom.proofs.Outcomes.{ends-refused, ends-failed, ends-done, keeps-refused, keeps-failed, gives-done}
 use Rattle.mqom.proofs.Branches.{keygen-done, sign-unsatisfied, sign-spent, sign-done}
 
+abbrev Answer : Type 0
+Answer = Result (Unit {0}) Refusal
+
 zeros : (work between work' : List ℕ) → work' ≡ replicate (length between) 0 → length between ≡ length work → work' ≡ replicate (length work) 0
 zeros work between work' z h = z ∙ ap (λ (n : ℕ). replicate n 0) h
 
 module _ (seed pk sk work : List ℕ) where
-  pub keys-refused : {n : ℕ} → keygen_all seed (length pk) (length sk) (length work) ≡ refused n → MakesKeys seed pk sk work n pk sk work
-  keys-refused e = record { ends = ends-refused e; public = keeps-refused e; secret = keeps-refused e }
+  -- where a length is wrong nothing is touched
+  pub keys-refused : {r : Answer} {pk' sk' work' : List ℕ} → keygen_all seed (length pk) (length sk) (length work) ≡ refused 1
+      → r ≡ Err Length → pk' ≡ pk → sk' ≡ sk → work' ≡ work → MakesKeys seed pk sk work (number_of_answer r) pk' sk' work'
+  keys-refused e r p q w =
+      rw (r, p, q, w) (record { ends = ends-refused e; public = keeps-refused e; secret = keeps-refused e })
 
   pub keys-made : {pk' sk' work' : List ℕ} (between : List ℕ) → KeygenSized seed (length pk) (length sk) (length work)
       → pk' ≡ (key_gen seed).pk → sk' ≡ (key_gen seed).sk → work' ≡ replicate (length between) 0 → length between ≡ length work
@@ -30,9 +41,14 @@ module _ (seed pk sk work : List ℕ) where
       record { ends = ends-done e (zeros work between _ z h); public = gives-done e p; secret = gives-done e q }
 
 module _ (sk msg salt mseed : List ℕ) (tries : ℕ) (sig work : List ℕ) where
-  pub signs-refused : {n : ℕ} → sign_all sk msg salt mseed tries (length sig) (length work) ≡ refused n
-      → SignsMessage sk msg salt mseed tries sig work n sig work
-  signs-refused e = record { ends = ends-refused e; signature = keeps-refused e }
+  pub signs-refused : {n : ℕ} {sig' work' : List ℕ} → sign_all sk msg salt mseed tries (length sig) (length work) ≡ refused n
+      → sig' ≡ sig → work' ≡ work → SignsMessage sk msg salt mseed tries sig work n sig' work'
+  signs-refused e p w = rw (p, w) (record { ends = ends-refused e; signature = keeps-refused e })
+
+  -- where a length is wrong
+  pub signs-length : {r : Answer} {sig' work' : List ℕ} → sign_all sk msg salt mseed tries (length sig) (length work) ≡ refused 1
+      → r ≡ Err Length → sig' ≡ sig → work' ≡ work → SignsMessage sk msg salt mseed tries sig work (number_of_answer r) sig' work'
+  signs-length e r p w = rw r (signs-refused e p w)
 
   pub signs-failed : {n : ℕ} {sig' work' : List ℕ} (between : List ℕ) → sign_all sk msg salt mseed tries (length sig) (length work) ≡ failed n
       → sig' ≡ sig → work' ≡ replicate (length between) 0 → length between ≡ length work
@@ -46,29 +62,36 @@ module _ (sk msg salt mseed : List ℕ) (tries : ℕ) (sig work : List ℕ) wher
   signs-made between e z h = record { ends = ends-done e (zeros work between _ z h); signature = gives-done e refl }
 
   -- what the work answers, by cases: whether the solution satisfies the equations, and whether a try passes
-  pub signs-worked : {r : ℕ} {sig' work' : List ℕ} (between : List ℕ) → SignSized sk salt mseed (length sig) (length work) → Fits msg → TriesWithin tries
-      → (satisfied sk ≡ false → (r ≡ 4) × (sig' ≡ sig))
-      → (satisfied sk ≡ true → sign_of r3 sk msg salt mseed tries ≡ none → (r ≡ 5) × (sig' ≡ sig))
-      → (satisfied sk ≡ true → (b : List ℕ) → sign_of r3 sk msg salt mseed tries ≡ some b → (r ≡ 0) × (sig' ≡ b))
+  pub signs-worked : {r n : ℕ} {sk₁ salt₁ mseed₁ sig₁ sig' work' : List ℕ} (between : List ℕ) → SignSized sk salt mseed (length sig) (length work)
+      → Fits msg → TriesWithin tries → sk₁ ≡ sk → salt₁ ≡ salt → mseed₁ ≡ mseed → sig₁ ≡ sig → Signed sk₁ msg salt₁ mseed₁ tries sig₁ r sig' → r ≡ n
       → work' ≡ replicate (length between) 0 → length between ≡ length work
-      → SignsMessage sk msg salt mseed tries sig work r sig' work'
-  signs-worked {r} {sig'} {work'} between s f t unsolved spent made z h = go (satisfied sk) refl (sign_of r3 sk msg salt mseed tries) refl
+      → SignsMessage sk msg salt mseed tries sig work n sig' work'
+  signs-worked {n = n} {sig' = sig'} {work' = work'} between s f t a b c d signed e₀ z h = go (satisfied sk) refl (sign_of r3 sk msg salt mseed tries) refl
     where
-      numbered : {n : ℕ} → r ≡ n → SignsMessage sk msg salt mseed tries sig work n sig' work' → SignsMessage sk msg salt mseed tries sig work r sig' work'
-      numbered e m = subst (λ (n : ℕ). SignsMessage sk msg salt mseed tries sig work n sig' work') (sym e) m
+      of_ours : Signed sk msg salt mseed tries sig n sig'
+      of_ours = rw (a, b, c, d, e₀) at signed
 
-      go : (b : Bool) → satisfied sk ≡ b → (o : Option (List ℕ)) → sign_of r3 sk msg salt mseed tries ≡ o → SignsMessage sk msg salt mseed tries sig work r sig' work'
+      numbered : {m : ℕ} → n ≡ m → SignsMessage sk msg salt mseed tries sig work m sig' work' → SignsMessage sk msg salt mseed tries sig work n sig' work'
+      numbered e s = subst (λ (m : ℕ). SignsMessage sk msg salt mseed tries sig work m sig' work') (sym e) s
+
+      go : (b : Bool) → satisfied sk ≡ b → (o : Option (List ℕ)) → sign_of r3 sk msg salt mseed tries ≡ o → SignsMessage sk msg salt mseed tries sig work n sig' work'
       go false e o q =
-          numbered (unsolved e).0 (signs-failed between (sign-unsatisfied sk msg salt mseed tries (length sig) (length work) s f t e) (unsolved e).1 z h)
+          numbered (of_ours.unsolved e).0 (signs-failed between (sign-unsatisfied sk msg salt mseed tries (length sig) (length work) s f t e) (of_ours.unsolved e).1 z h)
       go true e none q =
-          numbered (spent e q).0 (signs-failed between (sign-spent sk msg salt mseed tries (length sig) (length work) s f t e q) (spent e q).1 z h)
+          numbered (of_ours.spent e q).0 (signs-failed between (sign-spent sk msg salt mseed tries (length sig) (length work) s f t e q) (of_ours.spent e q).1 z h)
       go true e (some b) q =
-          numbered (made e b q).0
-          (signs-made between (sign-done sk msg salt mseed tries (length sig) (length work) s f t b e q ∙ ap done (sym (made e b q).1)) z h)
+          numbered (of_ours.done e b q).0
+          (signs-made between (sign-done sk msg salt mseed tries (length sig) (length work) s f t b e q ∙ ap done (sym (of_ours.done e b q).1)) z h)
 
 module _ (pk msg sig work : List ℕ) where
-  pub checks-refused : {n : ℕ} → check_all pk msg sig (length work) ≡ refused n → ChecksSignature pk msg sig work n work
-  checks-refused e = record { ends = ends-refused e }
+  pub checks-refused : {n : ℕ} {work' : List ℕ} → check_all pk msg sig (length work) ≡ refused n → work' ≡ work
+      → ChecksSignature pk msg sig work n work'
+  checks-refused e w = rw w (record { ends = ends-refused e })
+
+  -- where a length is wrong
+  pub checks-length : {r : Answer} {work' : List ℕ} → check_all pk msg sig (length work) ≡ refused 1 → r ≡ Err Length → work' ≡ work
+      → ChecksSignature pk msg sig work (number_of_answer r) work'
+  checks-length e r w = rw r (checks-refused e w)
 
   pub checks-failed : {n : ℕ} {work' : List ℕ} (between : List ℕ) → check_all pk msg sig (length work) ≡ failed n
       → work' ≡ replicate (length between) 0 → length between ≡ length work → ChecksSignature pk msg sig work n work'

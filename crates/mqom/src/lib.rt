@@ -1,67 +1,107 @@
-// MQOM v2.1, set MQOM2-L1-gf16-fast-r3: what a user calls. Each call is lent its outputs and a workspace at exactly their length and gives
-// a number; the lowest that applies. With 1, 2 and 3 nothing is touched. Else the workspace is all zero afterwards, and outputs are written
-// with 0 alone. All randomness is an input: a key seed, a salt and a master seed must be drawn anew, at random, for each use.
+// MQOM v2.1, set MQOM2-L1-gf16-fast-r3: what a user calls. Each call is lent its outputs and a workspace at exactly their length and answers
+// Ok, or a refusal; of those that apply the one with the lowest number. With numbers 1, 2 and 3 nothing is touched. Else the workspace is all
+// zero afterwards, and outputs are written with Ok alone. All randomness is an input: a key seed, a salt and a master seed must be drawn anew,
+// at random, for each use.
 #![tactic(auto)]
 
-ghost use Rattle.std.specs.Prelude.{◌≡◌};
+ghost use Rattle.std.specs.Prelude.{◌≡◌, Err};
 ghost use Rattle.signer.specs.Written.{number_of};
+ghost use Rattle.mqom.specs.Answer.{number_of_answer, number_of_refusal};
 ghost use Rattle.mqom.specs.Calls.{MakesKeys, SignsMessage, ChecksSignature};
 
 pub mod fields;
 
-// Key generation.
-//
-// seed: a key seed of 32 bytes.
-// pk, sk: lent at 60 and 88 bytes. With number 0 they hold the public key and the secret key afterwards, with 1 they are untouched.
-// work: lent at 65,536 bytes. With number 0 it is all zero afterwards, with 1 untouched.
-//
-//   0  done
-//   1  seed, pk, sk or work has another length
-pub fn make_keys(seed: &[u8], pk: &mut [u8], sk: &mut [u8], work: &mut [u8]) -> u8
-    ensures { MakesKeys seed.now pk.old sk.old work.old result pk.new sk.new work.new }
+// The longest message in bytes, and the most tries that may be allowed.
+const MESSAGE: usize = 65536;
+
+const TRIES: u32 = 1048576;
+
+/// Why a call did not do what it was asked for, with document 01's number.
+#[derive(Clone, Copy, Debug, PartialEq, Eq)]
+pub enum Refusal {
+    /// Number 1: a fixed-length input, an output or the workspace has another length. Nothing was looked at, so this is no verdict.
+    Length,
+    /// Number 2: the message is above 65,536 bytes. Sign its parts, or a list of their hashes.
+    Message,
+    /// Number 3: the allowed tries are 0 or above 1,048,576.
+    Tries,
+    /// Number 4: the secret solution does not satisfy the equations that the secret key carries. The key is damaged: don't sign with it.
+    Unsatisfied,
+    /// Number 5: none of the allowed tries passes. More of them, up to the limit, may.
+    Spent,
+    /// Number 6: the specification's verification rejects. The message, the signature or the key is not the one that belongs here.
+    Rejected,
+}
+
+impl From<Refusal> for u8 {
+    ghost from_gives = { λ refusal n. n ≡ number_of_refusal refusal };
+
+    fn from(refusal: Refusal) -> u8 {
+        match refusal {
+            Refusal::Length => 1,
+            Refusal::Message => 2,
+            Refusal::Tries => 3,
+            Refusal::Unsatisfied => 4,
+            Refusal::Spent => 5,
+            Refusal::Rejected => 6,
+        }
+    }
+}
+
+impl From<signer::Refused> for Refusal {
+    ghost from_gives = { λ refused refusal. number_of_refusal refusal ≡ number_of (Err refused) };
+
+    fn from(refused: signer::Refused) -> Refusal {
+        match refused {
+            signer::Refused::Unsatisfied => Refusal::Unsatisfied,
+            signer::Refused::Spent => Refusal::Spent,
+        }
+    }
+}
+
+/// The number of an answer: 0 where it is Ok, else the refusal's.
+pub fn number(answer: Result<(), Refusal>) -> u8
+    ensures { result ≡ number_of_answer answer }
 {
-    if seed.len() != 32 {
-        return 1;
+    match answer {
+        Ok(()) => 0,
+        Err(refusal) => u8::from(refusal),
     }
-    if pk.len() != 60 {
-        return 1;
-    }
-    if sk.len() != 88 {
-        return 1;
-    }
-    if work.len() != 65536 {
-        return 1;
-    }
+}
+
+/// Key generation.
+///
+/// `seed`: a key seed of 32 bytes.
+/// `pk`, `sk`: lent at 60 and 88 bytes. With Ok they hold the public key and the secret key afterwards, else they are untouched.
+/// `work`: lent at 65,536 bytes. With Ok it is all zero afterwards, else untouched.
+///
+/// Refused with `Length` where `seed`, `pk`, `sk` or `work` has another length, and with nothing else.
+pub fn make_keys(
+    seed: &[u8],
+    pk: &mut [u8],
+    sk: &mut [u8],
+    work: &mut [u8],
+) -> Result<(), Refusal>
+    ensures { MakesKeys seed.now pk.old sk.old work.old (number_of_answer result) pk.new sk.new work.new }
+{
+    let seed = seed.as_array::<32>().ok_or(Refusal::Length)?;
+    let pk = pk.as_mut_array::<60>().ok_or(Refusal::Length)?;
+    let sk = sk.as_mut_array::<88>().ok_or(Refusal::Length)?;
+    let work = work.as_mut_array::<65536>().ok_or(Refusal::Length)?;
     keygen::make_keys(seed, pk, sk, work);
     octets::clear(work);
-    0
+    Ok(())
 }
 
-// The number of what signing answers.
-fn number(r: Result<(), signer::Refused>) -> u8
-    ensures { result ≡ number_of r }
-{
-    match r {
-        Ok(()) => 0,
-        Err(signer::Refused::Unsatisfied) => 4,
-        Err(signer::Refused::Spent) => 5,
-    }
-}
-
-// Signing.
-//
-// sk, msg, salt, mseed: a secret key of 88 bytes, a message of 0 to 65,536, a salt and a master seed of 16 each.
-// tries: how many nonces may be tested, 1 to 1,048,576.
-// sig: lent at 3484 bytes. With number 0 it holds the signature afterwards, with any other it is untouched.
-// work: lent at 65,536 bytes. With 1, 2 and 3 it is untouched, with any other number all zero afterwards.
-//
-// The lowest number that applies is given:
-//   0  done
-//   1  sk, salt, mseed, sig or work has another length
-//   2  the message is above 65,536 bytes
-//   3  the allowed tries are 0 or above 1,048,576
-//   4  the secret solution does not satisfy the equations that the secret key carries
-//   5  none of the allowed tries passes; more of them, up to the limit, may
+/// Signing.
+///
+/// `sk`, `msg`, `salt`, `mseed`: a secret key of 88 bytes, a message of 0 to 65,536, a salt and a master seed of 16 each.
+/// `tries`: how many nonces may be tested, 1 to 1,048,576.
+/// `sig`: lent at 3484 bytes. With Ok it holds the signature afterwards, else it is untouched.
+/// `work`: lent at 65,536 bytes. With `Length`, `Message` and `Tries` it is untouched, else all zero afterwards.
+///
+/// Of the refusals that apply the first is given: `Length` (`sk`, `salt`, `mseed`, `sig` or `work`), `Message`, `Tries`, `Unsatisfied`,
+/// `Spent`.
 pub fn sign(
     sk: &[u8],
     msg: &[u8],
@@ -70,64 +110,42 @@ pub fn sign(
     tries: u32,
     sig: &mut [u8],
     work: &mut [u8],
-) -> u8
-    ensures { SignsMessage sk.now msg.now salt.now mseed.now tries sig.old work.old result sig.new work.new }
+) -> Result<(), Refusal>
+    ensures { SignsMessage sk.now msg.now salt.now mseed.now tries sig.old work.old (number_of_answer result) sig.new work.new }
 {
-    if sk.len() != 88 {
-        return 1;
+    let sk = sk.as_array::<88>().ok_or(Refusal::Length)?;
+    let salt = salt.as_array::<16>().ok_or(Refusal::Length)?;
+    let mseed = mseed.as_array::<16>().ok_or(Refusal::Length)?;
+    let sig = sig.as_mut_array::<3484>().ok_or(Refusal::Length)?;
+    let work = work.as_mut_array::<65536>().ok_or(Refusal::Length)?;
+    if msg.len() > MESSAGE {
+        return Err(Refusal::Message);
     }
-    if salt.len() != 16 {
-        return 1;
+    if tries == 0 || tries > TRIES {
+        return Err(Refusal::Tries);
     }
-    if mseed.len() != 16 {
-        return 1;
-    }
-    if sig.len() != 3484 {
-        return 1;
-    }
-    if work.len() != 65536 {
-        return 1;
-    }
-    if msg.len() > 65536 {
-        return 2;
-    }
-    if tries == 0 {
-        return 3;
-    }
-    if tries > 1048576 {
-        return 3;
-    }
-    let r = signer::sign(sk, msg, salt, mseed, tries, sig, work);
+    let worked = signer::sign(sk, msg, salt, mseed, tries, sig, work);
     octets::clear(work);
-    number(r)
+    worked?;
+    Ok(())
 }
 
-// Checking.
-//
-// pk, msg, sig: a public key of 60 bytes, a message of 0 to 65,536, a signature of 3484.
-// work: lent at 65,536 bytes. With 1 and 2 it is untouched, with any other number all zero afterwards.
-//
-// The lowest number that applies is given:
-//   0  accepted
-//   1  pk, sig or work has another length
-//   2  the message is above 65,536 bytes
-//   6  the specification's verification rejects
-pub fn check(pk: &[u8], msg: &[u8], sig: &[u8], work: &mut [u8]) -> u8
-    ensures { ChecksSignature pk.now msg.now sig.now work.old result work.new }
+/// Checking. Ok says that the signature is accepted.
+///
+/// `pk`, `msg`, `sig`: a public key of 60 bytes, a message of 0 to 65,536, a signature of 3484.
+/// `work`: lent at 65,536 bytes. With `Length` and `Message` it is untouched, else all zero afterwards.
+///
+/// Of the refusals that apply the first is given: `Length` (`pk`, `sig` or `work`), `Message`, `Rejected`.
+pub fn check(pk: &[u8], msg: &[u8], sig: &[u8], work: &mut [u8]) -> Result<(), Refusal>
+    ensures { ChecksSignature pk.now msg.now sig.now work.old (number_of_answer result) work.new }
 {
-    if pk.len() != 60 {
-        return 1;
+    let pk = pk.as_array::<60>().ok_or(Refusal::Length)?;
+    let sig = sig.as_array::<3484>().ok_or(Refusal::Length)?;
+    let work = work.as_mut_array::<65536>().ok_or(Refusal::Length)?;
+    if msg.len() > MESSAGE {
+        return Err(Refusal::Message);
     }
-    if sig.len() != 3484 {
-        return 1;
-    }
-    if work.len() != 65536 {
-        return 1;
-    }
-    if msg.len() > 65536 {
-        return 2;
-    }
-    let ok = checker::verify(pk, msg, sig, work);
+    let accepted = checker::verify(pk, msg, sig, work);
     octets::clear(work);
-    if ok { 0 } else { 6 }
+    if accepted { Ok(()) } else { Err(Refusal::Rejected) }
 }

@@ -3,10 +3,11 @@
 #![tactic(auto)]
 
 use files::Failure;
+use mqom::Refusal;
 use std::random::RandomSource;
 use std::rt::{Env, Files};
 
-fn run<R: Env + Files + RandomSource + Eprint>(rt: &R) -> Result<(), Failure<u8>> {
+fn run<R: Env + Files + RandomSource + Eprint>(rt: &R) -> Result<(), Failure<Refusal>> {
     files::expect_words(rt, 6)?;
     let mut sk = [0u8; 89];
     let sk = files::read(rt, 1, &mut sk)?;
@@ -21,7 +22,7 @@ fn run<R: Env + Files + RandomSource + Eprint>(rt: &R) -> Result<(), Failure<u8>
     let tries = tries.as_array::<4>().ok_or(Failure::Input)?;
     let mut sig = [0u8; 3484];
     let mut work = [0u8; 65536];
-    let n = mqom::sign(
+    mqom::sign(
         sk,
         msg,
         salt,
@@ -29,10 +30,8 @@ fn run<R: Env + Files + RandomSource + Eprint>(rt: &R) -> Result<(), Failure<u8>
         files::low_first(tries),
         &mut sig,
         &mut work,
-    );
-    if n != 0 {
-        return Err(Failure::Refused(n));
-    }
+    )
+    .map_err(Failure::Refused)?;
     files::store(rt, 6, &sig)?;
     Ok(())
 }

@@ -1,4 +1,5 @@
-// The library's calls, for a program in C that times them: each is the call of the same name, with its contract.
+// The library's calls, for a program in C that times them: each is the call of the same name, with its contract, and gives the number of
+// what that call answers: C has no Result.
 #![tactic(auto)]
 
 ghost use Rattle.std.specs.Prelude.{◌≡◌};
@@ -10,7 +11,7 @@ ghost use Rattle.mqom.specs.Calls.{MakesKeys, SignsMessage, ChecksSignature};
 pub extern "C" fn timed_make_keys(seed: &[u8], pk: &mut [u8], sk: &mut [u8], work: &mut [u8]) -> u8
     ensures { MakesKeys seed.now pk.old sk.old work.old result pk.new sk.new work.new }
 {
-    mqom::make_keys(seed, pk, sk, work)
+    mqom::number(mqom::make_keys(seed, pk, sk, work))
 }
 
 #[unsafe(no_mangle)]
@@ -25,14 +26,14 @@ pub extern "C" fn timed_sign(
 ) -> u8
     ensures { SignsMessage sk.now msg.now salt.now mseed.now tries sig.old work.old result sig.new work.new }
 {
-    mqom::sign(sk, msg, salt, mseed, tries, sig, work)
+    mqom::number(mqom::sign(sk, msg, salt, mseed, tries, sig, work))
 }
 
 #[unsafe(no_mangle)]
 pub extern "C" fn timed_check(pk: &[u8], msg: &[u8], sig: &[u8], work: &mut [u8]) -> u8
     ensures { ChecksSignature pk.now msg.now sig.now work.old result work.new }
 {
-    mqom::check(pk, msg, sig, work)
+    mqom::number(mqom::check(pk, msg, sig, work))
 }
 
 #[unsafe(no_mangle)]
