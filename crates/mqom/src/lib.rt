@@ -11,10 +11,26 @@ ghost use Rattle.mqom.specs.Calls.{MakesKeys, SignsMessage, ChecksSignature};
 
 pub mod fields;
 
-// The longest message in bytes, and the most tries that may be allowed.
-const MESSAGE: usize = 65536;
+// Lengths in bytes; of a message the most.
 
-const TRIES: u32 = 1048576;
+pub const KEY_SEED: usize = 32;
+
+pub const PUBLIC_KEY: usize = 60;
+
+pub const SECRET_KEY: usize = 88;
+
+pub const SALT: usize = 16;
+
+pub const MASTER_SEED: usize = 16;
+
+pub const SIGNATURE: usize = 3484;
+
+pub const WORKSPACE: usize = 65536;
+
+pub const MESSAGE: usize = 65536;
+
+/// The most tries that may be allowed.
+pub const TRIES: u32 = 1048576;
 
 /// Why a call did not do what it was asked for, with document 01's number.
 #[derive(Clone, Copy, Debug, PartialEq, Eq)]
@@ -76,18 +92,13 @@ pub fn number(answer: Result<(), Refusal>) -> u8
 /// `work`: lent at 65,536 bytes. With Ok it is all zero afterwards, else untouched.
 ///
 /// Refused with `Length` where `seed`, `pk`, `sk` or `work` has another length, and with nothing else.
-pub fn make_keys(
-    seed: &[u8],
-    pk: &mut [u8],
-    sk: &mut [u8],
-    work: &mut [u8],
-) -> Result<(), Refusal>
+pub fn make_keys(seed: &[u8], pk: &mut [u8], sk: &mut [u8], work: &mut [u8]) -> Result<(), Refusal>
     ensures { MakesKeys seed.now pk.old sk.old work.old (number_of_answer result) pk.new sk.new work.new }
 {
-    let seed = seed.as_array::<32>().ok_or(Refusal::Length)?;
-    let pk = pk.as_mut_array::<60>().ok_or(Refusal::Length)?;
-    let sk = sk.as_mut_array::<88>().ok_or(Refusal::Length)?;
-    let work = work.as_mut_array::<65536>().ok_or(Refusal::Length)?;
+    let seed = seed.as_array::<KEY_SEED>().ok_or(Refusal::Length)?;
+    let pk = pk.as_mut_array::<PUBLIC_KEY>().ok_or(Refusal::Length)?;
+    let sk = sk.as_mut_array::<SECRET_KEY>().ok_or(Refusal::Length)?;
+    let work = work.as_mut_array::<WORKSPACE>().ok_or(Refusal::Length)?;
     keygen::make_keys(seed, pk, sk, work);
     octets::clear(work);
     Ok(())
@@ -113,11 +124,11 @@ pub fn sign(
 ) -> Result<(), Refusal>
     ensures { SignsMessage sk.now msg.now salt.now mseed.now tries sig.old work.old (number_of_answer result) sig.new work.new }
 {
-    let sk = sk.as_array::<88>().ok_or(Refusal::Length)?;
-    let salt = salt.as_array::<16>().ok_or(Refusal::Length)?;
-    let mseed = mseed.as_array::<16>().ok_or(Refusal::Length)?;
-    let sig = sig.as_mut_array::<3484>().ok_or(Refusal::Length)?;
-    let work = work.as_mut_array::<65536>().ok_or(Refusal::Length)?;
+    let sk = sk.as_array::<SECRET_KEY>().ok_or(Refusal::Length)?;
+    let salt = salt.as_array::<SALT>().ok_or(Refusal::Length)?;
+    let mseed = mseed.as_array::<MASTER_SEED>().ok_or(Refusal::Length)?;
+    let sig = sig.as_mut_array::<SIGNATURE>().ok_or(Refusal::Length)?;
+    let work = work.as_mut_array::<WORKSPACE>().ok_or(Refusal::Length)?;
     if msg.len() > MESSAGE {
         return Err(Refusal::Message);
     }
@@ -139,13 +150,17 @@ pub fn sign(
 pub fn check(pk: &[u8], msg: &[u8], sig: &[u8], work: &mut [u8]) -> Result<(), Refusal>
     ensures { ChecksSignature pk.now msg.now sig.now work.old (number_of_answer result) work.new }
 {
-    let pk = pk.as_array::<60>().ok_or(Refusal::Length)?;
-    let sig = sig.as_array::<3484>().ok_or(Refusal::Length)?;
-    let work = work.as_mut_array::<65536>().ok_or(Refusal::Length)?;
+    let pk = pk.as_array::<PUBLIC_KEY>().ok_or(Refusal::Length)?;
+    let sig = sig.as_array::<SIGNATURE>().ok_or(Refusal::Length)?;
+    let work = work.as_mut_array::<WORKSPACE>().ok_or(Refusal::Length)?;
     if msg.len() > MESSAGE {
         return Err(Refusal::Message);
     }
     let accepted = checker::verify(pk, msg, sig, work);
     octets::clear(work);
-    if accepted { Ok(()) } else { Err(Refusal::Rejected) }
+    if accepted {
+        Ok(())
+    } else {
+        Err(Refusal::Rejected)
+    }
 }

@@ -1,7 +1,8 @@
 -- `mqom::sign` meets its contract: each length in its turn, the message, the tries, the work, and the workspace cleared. Assumes nothing.
-use Rattle.std.proofs.Common.{rules, refl, arith}
+use Rattle.std.proofs.Common.{rules, refl}
 use Rattle.mqom.proofs.Answers.{signs-length, signs-refused, signs-worked}
-use Rattle.mqom.proofs.Branches.{sign-sk, sign-salt, sign-mseed, sign-sig, sign-work, sign-message, sign-tries}
+use Rattle.mqom.proofs.Branches.{sign-sk, sign-salt, sign-mseed, sign-sig, sign-work, sign-message, sign_zero, sign_above}
+use Rattle.mqom.proofs.sign.Goals.{then-tries-eq0-via-then-tries-eq0, then-tries-eq0-via-else-tries-eq0+then-tries-gt-TRIES}
 use Rattle.mqom.proofs.sign.Goals as goal
 
 pub returns-in_err-sk : goal.returns-in_err-sk
@@ -26,12 +27,21 @@ returns-then-msg-gt-MESSAGE c = signs-refused _ _ _ _ _ _ _
     c.if-msg-gt-MESSAGE.true)
     (search rules) (search rules)
 
-pub returns-then-not-contains : goal.returns-then-not-contains
-returns-then-not-contains c = signs-refused _ _ _ _ _ _ _
-    (sign-tries _ _ _ _ _ _ _
-    (record { sk-88 = search rules; salt-16 = search rules; mseed-16 = search rules; sig-3484 = search rules; work-65536 = search rules })
-    (search rules) (λ t. absurd (grind (arith, t, c.if-not-contains.ensures.cases))))
-    (search rules) (search rules)
+pub returns-then-tries-eq0 : goal.returns-then-tries-eq0
+returns-then-tries-eq0 c = elim c.then-tries-eq0.branch [
+  | then-tries-eq0-via-then-tries-eq0 w ↦
+      signs-refused _ _ _ _ _ _ _
+      (sign_zero _ _ _ _ _ _ _
+      (record { sk-88 = search rules; salt-16 = search rules; mseed-16 = search rules; sig-3484 = search rules; work-65536 = search rules })
+      (search rules) w.if-tries-eq0.true)
+      (search rules) (search rules)
+  | then-tries-eq0-via-else-tries-eq0+then-tries-gt-TRIES w ↦
+      signs-refused _ _ _ _ _ _ _
+      (sign_above _ _ _ _ _ _ _
+      (record { sk-88 = search rules; salt-16 = search rules; mseed-16 = search rules; sig-3484 = search rules; work-65536 = search rules })
+      (search rules) w.if-tries-gt-TRIES.true)
+      (search rules) (search rules)
+]
 
 pub returns-in_err-worked : goal.returns-in_err-worked
 returns-in_err-worked c =
