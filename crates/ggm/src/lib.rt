@@ -14,7 +14,7 @@ use aes::{Cols, Tables};
 // What a tree is derived with: the tables of the cipher, and the tree's twelve keys.
 #[derive(Drop)]
 pub struct Tree<'a> {
-    pub tables: &'a Tables,
+    pub tables: Tables<'a>,
     pub keys: [u8; 2112],
     ghost keys_len: { length keys ≡ 2112 },
 }
@@ -29,12 +29,14 @@ fn half(d: usize) -> usize
 
 impl<'a> Tree<'a> {
     // Tree e of a signature with this salt.
-    pub fn new(t: &'a Tables, salt: Cols, e: usize) -> Tree<'a>
+    pub fn new(t: &Tables<'a>, salt: Cols, e: usize) -> Tree<'a>
         requires { e < 17 }
         ensures { result.keys ≡ tree_keys (block_of salt) e }
     {
-        let keys = seeds::tree_keys(t, salt, e);
-        Tree { tables: t, keys }
+        Tree {
+            tables: *t,
+            keys: seeds::tree_keys(t, salt, e),
+        }
     }
 }
 
@@ -44,7 +46,7 @@ impl Tree<'_> {
         requires { k < 12 }
         ensures { block_of result ≡ derive_with (key_at self.now.keys k) (block_of s) }
     {
-        seeds::tree_derive(self.tables, &self.keys, k, s)
+        seeds::tree_derive(&self.tables, &self.keys, k, s)
     }
 
     // The left child of a node of layer j. Of the layers' keys those of layers 1 to 7 are read.

@@ -175,8 +175,8 @@ pub fn tree_keys(t: &Tables, salt: Cols, e: usize) -> [u8; 2112]
 }
 
 // SeedDerive, a half of SeedCommit or a block of PRG, under key k of a tree's twelve.
-pub fn tree_derive(t: &Tables, keys: &[u8], k: usize, s: Cols) -> Cols
-    requires { (length keys.now ≡ 2112) × (k < 12) }
+pub fn tree_derive(t: &Tables, keys: &[u8; 2112], k: usize, s: Cols) -> Cols
+    requires { k < 12 }
     ensures { block_of result ≡ derive_with (key_at keys.now k) (block_of s) }
 {
     derive_at(t, keys, k, s)
