@@ -1,5 +1,6 @@
 // Both sides of each edge of a key cell. A case that comes out otherwise ends the run, and each is proved to come out as it says;
-// the line that is written is their number.
+// the line that is written is their number. The cases name document 01's numbers and not the enum's names, so that the way from one to the
+// other is tried as well; each call is proved by computing its own literals, which a loop over a table of cases would not do.
 #![tactic(auto)]
 
 ghost use Rattle.std.specs.Prelude.{◌≡◌, ◌<◌};
@@ -18,7 +19,7 @@ fn refused(n: usize, i: usize, c: u8, m: usize, number: u8) -> u64
     let before = [0xaau8; 61];
     let r = cells::number(cells::read_cell(&cell[..n], &mut out[..m]));
     check::expect(r == number);
-    check::expect(octets::same(&out, &before));
+    check::expect(out == before);
     1
 }
 
@@ -34,7 +35,7 @@ fn read(i: usize, c: u8, b: u8) -> u64
     key[i / 2] = b;
     let r = cells::number(cells::read_cell(&cell, &mut out));
     check::expect(r == 0);
-    check::expect(octets::same(&out, &key));
+    check::expect(out == key);
     1
 }
 
@@ -48,7 +49,7 @@ fn unwritten(k: usize, m: usize) -> u64
     let before = [0xaau8; 121];
     let r = cells::number(cells::write_cell(&key[..k], &mut out[..m]));
     check::expect(r == 1);
-    check::expect(octets::same(&out, &before));
+    check::expect(out == before);
     1
 }
 
@@ -65,7 +66,7 @@ fn written(i: usize, b: u8, h: u8, l: u8) -> u64
     cell[2 * i + 1] = l;
     let r = cells::number(cells::write_cell(&key, &mut out));
     check::expect(r == 0);
-    check::expect(octets::same(&out, &cell));
+    check::expect(out == cell);
     1
 }
 
@@ -80,7 +81,7 @@ fn back(a: u8, i: usize, b: u8) -> u64
     let mut out = [0u8; 60];
     check::expect(cells::number(cells::write_cell(&key, &mut cell)) == 0);
     check::expect(cells::number(cells::read_cell(&cell, &mut out)) == 0);
-    check::expect(octets::same(&out, &key));
+    check::expect(out == key);
     1
 }
 

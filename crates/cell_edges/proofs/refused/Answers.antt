@@ -2,7 +2,8 @@
 use mathlib.Core.Path.{◌∙◌}
 use borrow.Author.Tests.{eq-eqb}
 use lib.ListN.{replicate}
-use Rattle.octets.proofs.Alike.{alike_of}
+use Rattle.std.proofs.lemmas.Bool.Decides.{Decides-eqb}
+use Rattle.std.proofs.lemmas.Slice.Eq.{slice_eq-Decides}
 use Rattle.cell_edges.specs.Edges.{but}
 use Rattle.cell_edges.proofs.Edges.{read-number, read_kept}
 use Rattle.cell_edges.proofs.refused.Goals as goal
@@ -14,4 +15,4 @@ expect-requires c = eq-eqb _ _ (c.number-r.ensures ∙ read-number c.args.m (rep
 pub expect-requires-2 : goal.expect-requires-2
 unfolding but
 expect-requires-2 c =
-    c.same.ensures ∙ alike_of _ _ (read_kept c.args.m (replicate 61 0xaa) c.requires.out-fits c.read_cell.ensures c.requires.refused c.requires.refusal)
+    (slice_eq-Decides Decides-eqb _ _ _ c.eq.ensures).1 (read_kept c.args.m (replicate 61 0xaa) c.requires.out-fits c.read_cell.ensures c.requires.refused c.requires.refusal)
