@@ -1,4 +1,5 @@
-// The permutation Keccak-f[1600], section 3 of FIPS 202, on 25 lanes.
+// The permutation Keccak-f[1600], section 3 of FIPS 202, on 25 lanes. The lanes are read at numerals: C with loops over x and y takes eight
+// times as long, and at numerals the proofs compute.
 ghost use Rattle.std.specs.Prelude.{◌≡◌};
 ghost use Rattle.shake.specs.Keccak.{theta, rho, pi, chi, iota, round, keccak_f};
 
@@ -151,6 +152,8 @@ pub fn keccak_f(a: &mut [u64; 25])
     ensures { a.new ≡ keccak_f a.old }
 {
     let mut s = *a;
+    // A `for`: of a fold's closure that calls `round` the proof does not learn what it returns, and the checker wants a call's array in a
+    // local of its own, `t`.
     for rc in RC {
         let t = round(s, rc);
         s = t;

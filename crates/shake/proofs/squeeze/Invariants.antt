@@ -1,13 +1,17 @@
--- `shake::squeeze` meets its contract: before turn i the first i bytes of the output are written, and the state is that of the byte before.
+-- `shake::squeeze` meets its contract: before each turn so many bytes of the output are written, and j of them are of the state's block.
 -- Assumes nothing.
-use Rattle.std.proofs.Common.{◌≡◌, ◌-◌, ◌/◌, length}
+use Rattle.std.proofs.Common.{◌≡◌, ℕ, ◌-◌, ◌/◌, ◌%◌, ◌≤◌, List, length}
 use Rattle.octets.proofs.Write.{written}
 use Rattle.shake.specs.Shake.{output}
 use Rattle.shake.proofs.Output.{after}
 use Rattle.shake.proofs.squeeze.Given as goal
 
-abbrev pub invariant-loop-i : goal.invariant-loop-i
-invariant-loop-i l = record {
-  state : l.a ≡ after ((l.i - 1) / 168) l.initial.a;
-  wrote : l.out ≡ written l.initial.out 0 (output l.initial.a (length l.initial.out)) l.i;
-}
+pub record Written (out₀ lanes out a : List ℕ) (j i : ℕ) : Type 0 where
+  pub room : j ≤ 168
+  pub upto : j ≤ i
+  pub start : (i - j) % 168 ≡ 0
+  pub state : a ≡ after ((i - j) / 168) lanes
+  pub wrote : out ≡ written out₀ 0 (output lanes (length out₀)) i
+
+abbrev pub invariant-loop-b : goal.invariant-loop-b
+invariant-loop-b l = Written l.initial.out l.initial.a l.out l.a l.j l.b-index
