@@ -1,10 +1,11 @@
 -- The loop that writes the blocks of an equation one after the other, and the input of the hash that gives its seed. Assumes nothing.
 use mathlib.Core.Path.{◌≡◌, sym, ap, ap₂, ◌∙◌}
-use mathlib.Core.List.{List, [], ◌∷◌, ◌++◌}
-use Prim.Native.Nat.{ℕ, ◌+◌, ◌*◌, ◌/◌, ◌%◌, ◌<◌}
+use mathlib.Core.List.{List, [], ◌∷◌, ◌++◌, append-nil}
+use Prim.Native.Nat.{ℕ, ◌+◌, ◌*◌, ◌<◌}
 use native.Mathlib.Omega.{arith}
-use lib.ListN.{length, set, length-set, length-append}
-use lib.Seq.{set_at}
+use lib.ListN.{length, take, drop, length-append}
+use lib.Seq.{take_at, drop_at}
+use Rattle.std.specs.Int.{w16, to_le_bytes}
 use Rattle.octets.specs.Lists.{part, joined, bytes_of, zero16}
 use Rattle.octets.specs.Place.{place}
 use Rattle.octets.proofs.Part.{part-here, part-all, part-skip, length-joined, joined-suc, length-bytes_of}
@@ -47,17 +48,17 @@ pub first_word : (k : Cols) → bytes_of 4 k.a ≡ part 0 4 (block_of k)
 unfolding block_of
 first_word k = sym (part-here 4 (bytes_of 4 k.a) _ (length-bytes_of 4 k.a))
 
--- ---- the hash's input: mseed_eq, and Bits_16 of a number below 28
+-- ---- the hash's input: mseed_eq, and Bits_16 of a number
 
-pub length-input : (x m : List ℕ) (v : ℕ) → x ≡ m → length m ≡ 32 → length (set (x ++ (0 ∷ (0 ∷ []))) 32 v) ≡ 34
-length-input x m v e h = length-set (x ++ (0 ∷ (0 ∷ []))) 32 v ∙ length-append x (0 ∷ (0 ∷ [])) ∙ ap (λ (n : ℕ). n + 2) (ap length e ∙ h)
+-- two bytes b behind x
+module _ (x m b : List ℕ) (i : ℕ) (e : x ≡ m) (h : length m ≡ 32) (f : b ≡ to_le_bytes w16 i) where
+  pub seed-input : take 32 (x ++ (0 ∷ (0 ∷ []))) ++ (b ++ drop 2 (drop 32 (x ++ (0 ∷ (0 ∷ []))))) ≡ m ++ bytes_of 2 i
+  unfolding bytes_of
+  seed-input =
+      ap₂ (λ (u v : List ℕ). u ++ (b ++ drop 2 v)) (take_at x (0 ∷ (0 ∷ [])) 32 (ap length e ∙ h)) (drop_at x (0 ∷ (0 ∷ [])) 32 (ap length e ∙ h))
+      ∙ ap (λ (u : List ℕ). x ++ u) (append-nil b)
+      ∙ ap₂ ◌++◌ e f
 
-pub seed-input : (x m : List ℕ) (i : ℕ) → x ≡ m → length m ≡ 32 → i < 28 → set (x ++ (0 ∷ (0 ∷ []))) 32 (i % 256) ≡ m ++ bytes_of 2 i
-unfolding bytes_of
-seed-input x m i e h k =
-    ap (λ (l : List ℕ). set (l ++ (0 ∷ (0 ∷ []))) 32 (i % 256)) e
-    ∙ set_at m 0 (0 ∷ []) (i % 256) 32 h
-    ∙ ap (λ (b : ℕ). m ++ (i % 256 ∷ (b ∷ []))) high
-  where
-    high : 0 ≡ i / 256 % 256
-    high = omega arith
+  pub length-input : length (take 32 (x ++ (0 ∷ (0 ∷ []))) ++ (b ++ drop 2 (drop 32 (x ++ (0 ∷ (0 ∷ [])))))) ≡ 34
+  unfolding bytes_of
+  length-input = ap length seed-input ∙ length-append m (bytes_of 2 i) ∙ ap (λ (n : ℕ). n + 2) h

@@ -17,7 +17,7 @@ fn seed(mseed: &[u8], i: usize) -> Cols
     let mut p = [0u8; 35];
     p[0] = Purpose::Equations.selector();
     p[1..33].copy_from_slice(mseed);
-    p[33] = (i % 256) as u8;
+    p[33..35].copy_from_slice(&(i as u16).to_le_bytes());
     let mut s = [0u8; 16];
     shake::xof(&p, &mut s);
     aes::load(&s, 0)

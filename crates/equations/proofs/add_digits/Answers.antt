@@ -36,7 +36,7 @@ loop-b-preserved t c =
       powers-turn s.t b.x c.root.new.x b.b b.invariant.1 c.root.ensures,
       λ f h.
           digits-turn f s.m.now s.k s.t s.z.now b.x b.z _ b.b _ refl b.invariant.1 (b.invariant.2 f h)
-          (put_all _ 24 l.l _ l.z l.invariant.0 (omega arith) (l.invariant.1 f h)),
+          (put_all b.z 24 l.l _ l.z l.invariant.0 (omega arith) (l.invariant.1 f h)),
     )
 
 pub returns : goal.returns
