@@ -6,17 +6,18 @@ ghost use Rattle.std.specs.Prelude.{◌≡◌, [], ◌+◌, ◌-◌, ◌*◌, �
 ghost use Rattle.octets.specs.Lists.{flat};
 ghost use Rattle.aes.specs.Words.{block_of};
 ghost use Rattle.tree.specs.Tree.{leaves_of, path_of, rebuild_of, tree_of, tree_path_of};
-ghost use Rattle.seeds.specs.Expanded.{derive_with, key_at, tree_keys};
+ghost use Rattle.seeds.specs.Expanded.{derive_with, key_at};
 ghost use Rattle.ggm.specs.Ggm.{derive_by};
 
 use aes::{Cols, Tables};
 
-// What a tree is derived with: the tables of the cipher, and the tree's twelve keys.
-#[derive(Drop)]
+// What a tree is derived with: the tables of the cipher, and the tree's twelve keys (seeds::tree_keys). Its methods are lent both, so that a
+// call's stack has the keys once.
+#[derive(Clone, Copy)]
 pub struct Tree<'a> {
     pub tables: Tables<'a>,
-    pub keys: [u8; 2112],
-    ghost keys_len: { length keys ≡ 2112 },
+    pub keys: &'a [u8; 2112],
+    ghost keys_len: { length keys.now ≡ 2112 },
 }
 
 // How many leaves half a tree of depth d has.
@@ -27,33 +28,20 @@ fn half(d: usize) -> usize
     1usize << (d - 1)
 }
 
-impl<'a> Tree<'a> {
-    // Tree e of a signature with this salt.
-    pub fn new(t: &Tables<'a>, salt: Cols, e: usize) -> Tree<'a>
-        requires { e < 17 }
-        ensures { result.keys ≡ tree_keys (block_of salt) e }
-    {
-        Tree {
-            tables: *t,
-            keys: seeds::tree_keys(t, salt, e),
-        }
-    }
-}
-
 impl Tree<'_> {
     // SeedDerive, a half of SeedCommit or a block of PRG, under key k.
     pub fn derive(&self, k: usize, s: Cols) -> Cols
         requires { k < 12 }
-        ensures { block_of result ≡ derive_with (key_at self.now.keys k) (block_of s) }
+        ensures { block_of result ≡ derive_with (key_at self.now.keys.now k) (block_of s) }
     {
-        seeds::tree_derive(&self.tables, &self.keys, k, s)
+        seeds::tree_derive(&self.tables, self.keys, k, s)
     }
 
     // The left child of a node of layer j. Of the layers' keys those of layers 1 to 7 are read.
     #[tactic(auto, unfolding(crate::specs::Ggm::derive_by))]
     fn child(&self, j: usize, s: Cols) -> Cols
         requires { (1 ≤ j) × (j ≤ 8) }
-        ensures { block_of result ≡ derive_by self.now.keys j (block_of s) }
+        ensures { block_of result ≡ derive_by self.now.keys.now j (block_of s) }
     {
         self.derive(j - 1, s)
     }
@@ -61,7 +49,7 @@ impl Tree<'_> {
     // Expand, below the node of layer j with seed s: its 2 ^ d leaf seeds.
     pub fn expand(&self, buf: &mut [u8], s: Cols, d: usize, j: usize)
         requires { (length buf.old ≡ 16 * 2 ^ d) × (1 ≤ j) × (j + d ≤ 8) }
-        ensures { buf.new ≡ flat (leaves_of (derive_by self.now.keys) d j (block_of s)) }
+        ensures { buf.new ≡ flat (leaves_of (derive_by self.now.keys.now) d j (block_of s)) }
     {
         if d == 0 {
             aes::store(buf, 0, s);
@@ -78,8 +66,8 @@ impl Tree<'_> {
     // Open, below the node of layer j with seed s: the d siblings on the way to the hidden leaf, from the leaf up. Gives that leaf's seed.
     pub fn open_path(&self, path: &mut [u8], hidden: usize, s: Cols, d: usize, j: usize) -> Cols
         requires { (length path.old ≡ 16 * d) × (hidden < 2 ^ d) × (1 ≤ j) × (j + d ≤ 8) }
-        ensures siblings { path.new ≡ flat (path_of (derive_by self.now.keys) d j hidden (block_of s)) }
-        ensures leaf { block_of result ≡ get_or (leaves_of (derive_by self.now.keys) d j (block_of s)) hidden [] }
+        ensures siblings { path.new ≡ flat (path_of (derive_by self.now.keys.now) d j hidden (block_of s)) }
+        ensures leaf { block_of result ≡ get_or (leaves_of (derive_by self.now.keys.now) d j (block_of s)) hidden [] }
     {
         if d == 0 {
             return s;
@@ -100,7 +88,7 @@ impl Tree<'_> {
     // PartiallyExpand, below a node of layer j: the leaf seeds that the sibling path gives, zeros in the place of the hidden leaf.
     pub fn rebuild(&self, buf: &mut [u8], hidden: usize, path: &[u8], d: usize, j: usize)
         requires { (length buf.old ≡ 16 * 2 ^ d) × (16 * d ≤ length path.now) × (hidden < 2 ^ d) × (j + d ≤ 8) }
-        ensures { buf.new ≡ flat (rebuild_of (derive_by self.now.keys) d j hidden path.now) }
+        ensures { buf.new ≡ flat (rebuild_of (derive_by self.now.keys.now) d j hidden path.now) }
     {
         if d == 0 {
             buf.fill(0);
@@ -121,7 +109,7 @@ impl Tree<'_> {
 
     // GGMTree.Expand: the 256 leaf seeds of the tree with root seed r and offset delta.
     pub fn expand_tree(&self, buf: &mut [u8; 4096], r: Cols, delta: Cols)
-        ensures { buf.new ≡ flat (tree_of (derive_by self.now.keys) 7 (block_of r) (block_of delta)) }
+        ensures { buf.new ≡ flat (tree_of (derive_by self.now.keys.now) 7 (block_of r) (block_of delta)) }
     {
         let o = r ^ delta;
         let (left, right) = buf.split_at_mut(2048);
@@ -132,8 +120,8 @@ impl Tree<'_> {
     // GGMTree.Open: the sibling path of the hidden leaf. Gives that leaf's seed.
     pub fn open_tree(&self, path: &mut [u8], hidden: usize, r: Cols, delta: Cols) -> Cols
         requires { (length path.old ≡ 128) × (hidden < 256) }
-        ensures siblings { path.new ≡ flat (tree_path_of (derive_by self.now.keys) 7 hidden (block_of r) (block_of delta)) }
-        ensures leaf { block_of result ≡ get_or (tree_of (derive_by self.now.keys) 7 (block_of r) (block_of delta)) hidden [] }
+        ensures siblings { path.new ≡ flat (tree_path_of (derive_by self.now.keys.now) 7 hidden (block_of r) (block_of delta)) }
+        ensures leaf { block_of result ≡ get_or (tree_of (derive_by self.now.keys.now) 7 (block_of r) (block_of delta)) hidden [] }
     {
         let o = r ^ delta;
         let (below, last) = path.split_at_mut(112);
@@ -149,7 +137,7 @@ impl Tree<'_> {
     // GGMTree.PartiallyExpand: the 256 leaf seeds that the sibling path gives, zeros in the place of the hidden leaf.
     pub fn rebuild_tree(&self, buf: &mut [u8; 4096], hidden: usize, path: &[u8])
         requires { (length path.now ≡ 128) × (hidden < 256) }
-        ensures { buf.new ≡ flat (rebuild_of (derive_by self.now.keys) 8 0 hidden path.now) }
+        ensures { buf.new ≡ flat (rebuild_of (derive_by self.now.keys.now) 8 0 hidden path.now) }
     {
         self.rebuild(buf, hidden, path, 8, 0);
     }

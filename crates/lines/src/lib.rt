@@ -42,7 +42,7 @@ pub fn point(i: u8) -> u8
 
 // SeedCommit (19) of a leaf's seed.
 fn commitment(tree: &Tree, s: Cols) -> [u8; 32]
-    ensures { result ≡ com_by tree.now.keys (block_of s) }
+    ensures { result ≡ com_by tree.now.keys.now (block_of s) }
 {
     let a = tree.derive(7, s);
     let b = tree.derive(8, s);
@@ -54,7 +54,7 @@ fn commitment(tree: &Tree, s: Cols) -> [u8; 32]
 
 // A leaf's tape: its seed, and 40 bytes of PRG.
 fn tape(tree: &Tree, s: Cols) -> [u8; 56]
-    ensures { result ≡ tape_by tree.now.keys (block_of s) }
+    ensures { result ≡ tape_by tree.now.keys.now (block_of s) }
 {
     let a = tree.derive(9, s);
     let b = tree.derive(10, s);
@@ -70,7 +70,7 @@ fn tape(tree: &Tree, s: Cols) -> [u8; 56]
 
 // What Hash_6 is given: its selector, and the commitments of all leaves.
 fn commit_leaves(tree: &Tree, leaves: &[u8; 4096], hashed: &mut [u8; 8193])
-    ensures { hashed.new ≡ hashed_of (coms_by tree.now.keys leaves.now) }
+    ensures { hashed.new ≡ hashed_of (coms_by tree.now.keys.now leaves.now) }
 {
     hashed[0] = Purpose::Leaves.selector();
     for i in 0..256 {
@@ -83,7 +83,7 @@ fn commit_leaves(tree: &Tree, leaves: &[u8; 4096], hashed: &mut [u8; 8193])
 // The tape of leaf i, and zeros for the hidden leaf.
 fn raw(tree: &Tree, leaves: &[u8; 4096], i: usize, hidden: Option<usize>) -> [u8; 56]
     requires { i < 256 }
-    ensures { (b : ℕ) → b < 56 → vec result b ≡ raw_by tree.now.keys leaves.now (unwrap_or hidden 256) i b }
+    ensures { (b : ℕ) → b < 56 → vec result b ≡ raw_by tree.now.keys.now leaves.now (unwrap_or hidden 256) i b }
 {
     if hidden == Some(i) {
         return [0u8; 56];
@@ -94,7 +94,7 @@ fn raw(tree: &Tree, leaves: &[u8; 4096], i: usize, hidden: Option<usize>) -> [u8
 
 // ComputeFolding (13), lines 1 to 5, of all leaves but the hidden one. Where none is hidden, a clause has 256 for it.
 fn fold_leaves(tree: &Tree, leaves: &[u8; 4096], hidden: Option<usize>) -> [u8; 504]
-    ensures { Folds result (raw_by tree.now.keys leaves.now (unwrap_or hidden 256)) 256 }
+    ensures { Folds result (raw_by tree.now.keys.now leaves.now (unwrap_or hidden 256)) 256 }
 {
     let mut f = [0u8; 504];
     for i in 0..256 {
@@ -128,7 +128,11 @@ pub fn commit(t: &Tables, salt: Cols, e: usize, r: Cols, x: &[u8], room: &mut [u
     requires { (e < 17) × (length x.now ≡ 28) × (length room.old ≡ 12289) }
     ensures { (mseed : List ℕ) → block_of r ≡ rseed mseed e → Committed mseed (block_of salt) x.now e result }
 {
-    let tree = Tree::new(t, salt, e);
+    let keys = seeds::tree_keys(t, salt, e);
+    let tree = Tree {
+        tables: *t,
+        keys: &keys,
+    };
     let (leaves, rest) = room.split_first_chunk_mut::<4096>().unwrap();
     let hashed = rest.as_mut_array::<8193>().unwrap();
     let d = aes::load(x, 0);
@@ -152,7 +156,11 @@ pub fn reveal(
     requires { (e < 17) × (length x.now ≡ 28) × (hidden < 256) × (length path.old ≡ 128) }
     ensures { (mseed : List ℕ) → block_of r ≡ rseed mseed e → Revealed mseed (block_of salt) x.now e hidden path.new result }
 {
-    let tree = Tree::new(t, salt, e);
+    let keys = seeds::tree_keys(t, salt, e);
+    let tree = Tree {
+        tables: *t,
+        keys: &keys,
+    };
     let d = aes::load(x, 0);
     let s = tree.open_tree(path, hidden, r, d);
     commitment(&tree, s)
@@ -187,7 +195,11 @@ pub fn eval(
     requires { (e < 17) × (length path.now ≡ 128) × (length out.now ≡ 32) × (length sent.now ≡ 12) × (length room.old ≡ 12289) }
     ensures { (paths outs sents : List ℕ) → path.now ≡ part (128 * e) 128 paths → out.now ≡ part (32 * e) 32 outs → sent.now ≡ part (12 * e) 12 sents → Evaluated (block_of salt) paths outs sents e hidden result }
 {
-    let tree = Tree::new(t, salt, e);
+    let keys = seeds::tree_keys(t, salt, e);
+    let tree = Tree {
+        tables: *t,
+        keys: &keys,
+    };
     let (leaves, rest) = room.split_first_chunk_mut::<4096>().unwrap();
     let hashed = rest.as_mut_array::<8193>().unwrap();
     let i = hidden as usize;

@@ -14,10 +14,10 @@ pub loop-i-preserved : goal.loop-i-preserved
 unfolding leaf_at
 loop-i-preserved c =
     let a = c.args in
-    hashed-turn a.tree.now.keys a.leaves.now a.tree.now.keys_len (omega arith) c.loop-i.i _ _ _ _ (omega arith)
-    (c.commitment-c.ensures ∙ ap (com_by a.tree.now.keys) c.load-s.ensures) c.put.ensures c.loop-i.invariant
+    hashed-turn a.tree.now.keys.now a.leaves.now a.tree.now.keys_len (omega arith) c.loop-i.i _ _ _ _ (omega arith)
+    (c.commitment-c.ensures ∙ ap (com_by a.tree.now.keys.now) c.load-s.ensures) c.put.ensures c.loop-i.invariant
 
 pub returns : goal.returns
 returns c =
     let a = c.args in
-    hashed-end a.tree.now.keys a.leaves.now a.tree.now.keys_len (omega arith) c.loop-i.i _ _ a.hashed.now (omega arith) (omega arith) (omega arith) c.selector.ensures c.loop-i.invariant
+    hashed-end a.tree.now.keys.now a.leaves.now a.tree.now.keys_len (omega arith) c.loop-i.i _ _ a.hashed.now (omega arith) (omega arith) (omega arith) c.selector.ensures c.loop-i.invariant

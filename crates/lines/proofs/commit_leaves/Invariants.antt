@@ -6,4 +6,4 @@ use Rattle.lines.specs.Standing.{coms_by}
 use Rattle.lines.proofs.commit_leaves.Given as goal
 
 abbrev pub invariant-loop-i : goal.invariant-loop-i
-invariant-loop-i l = l.hashed ≡ place 1 (joined l.i (coms_by l.tree.keys l.leaves)) l.initial.hashed
+invariant-loop-i l = l.hashed ≡ place 1 (joined l.i (coms_by l.tree.keys.now l.leaves)) l.initial.hashed

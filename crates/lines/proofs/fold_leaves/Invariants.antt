@@ -5,4 +5,4 @@ use Rattle.lines.specs.Standing.{raw_by}
 use Rattle.lines.proofs.fold_leaves.Given as goal
 
 abbrev pub invariant-loop-i : goal.invariant-loop-i
-invariant-loop-i l = Folds l.f (raw_by l.tree.keys l.leaves (unwrap_or l.hidden 256)) l.i
+invariant-loop-i l = Folds l.f (raw_by l.tree.keys.now l.leaves (unwrap_or l.hidden 256)) l.i

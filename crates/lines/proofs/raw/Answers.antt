@@ -18,11 +18,11 @@ pub returns-then-eq : goal.returns-then-eq
 returns-then-eq c =
     let a = c.args in
     let e = hidden-same a.hidden a.i (sym c.eq.ensures ∙ c.if-eq.true) in
-    λ b h. get_or-replicate 56 b 0 0 h ∙ sym (hide-same _ (λ k. vec (tape_by a.tree.now.keys (leaf_at a.leaves.now k))) a.i b e)
+    λ b h. get_or-replicate 56 b 0 0 h ∙ sym (hide-same _ (λ k. vec (tape_by a.tree.now.keys.now (leaf_at a.leaves.now k))) a.i b e)
 
 pub returns : goal.returns
 unfolding leaf_at
 returns c =
     let a = c.args in
-    λ b h. ap (λ (l : List ℕ). vec l b) (c.tape.ensures ∙ ap (tape_by a.tree.now.keys) c.load-s.ensures)
+    λ b h. ap (λ (l : List ℕ). vec l b) (c.tape.ensures ∙ ap (tape_by a.tree.now.keys.now) c.load-s.ensures)
     ∙ sym (hide-other _ _ _ b (hidden-other a.hidden a.i (sym c.eq.ensures ∙ c.if-eq.false) (omega arith)))
