@@ -7,6 +7,10 @@ use Prim.Native.Nat.{ℕ, ◌≤◌, ◌<◌}
 use native.Mathlib.Omega.{arith}
 use lib.ListN.{length, take, drop, take-append-drop}
 use lib.Seq.{length-take-le}
+use lib.Dec.{eqb}
+use lib.Pointwise.{pointwise}
+use Rattle.std.proofs.lemmas.Bool.Decides.{Decides-eqb}
+use Rattle.std.proofs.lemmas.Slice.Eq.{slice_eq-Decides}
 use Rattle.octets.specs.Lists.{alike}
 use Rattle.cells.specs.Character.{between, class_of, is_hex, hex_value}
 use Rattle.cells.specs.Cell.{all_hex, read_bytes, hex_char, write_text, read_number, write_number, CellRead, CellWritten}
@@ -32,6 +36,10 @@ module _
   write_kept =
       let z = write-number in
       ap (λ (s : List ℕ). s ++ drop m l) (write-refused x (λ y. omega arith)) ∙ take-append-drop m l
+
+-- what an array's == tells of equal ones
+pub told : {xs ys : List ℕ} {r : Bool} → r ≡ pointwise eqb xs ys → xs ≡ ys → r ≡ true
+told e = (slice_eq-Decides Decides-eqb _ _ _ e).1
 
 pub beq-of : (p q : Bool) → p ≡ q → beq p q ≡ true
 beq-of p q e = ap (λ (t : Bool). beq t q) e ∙ self q

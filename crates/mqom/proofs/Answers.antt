@@ -68,20 +68,22 @@ module _ (sk msg salt mseed : List ℕ) (tries : ℕ) (sig work : List ℕ) wher
       → SignsMessage sk msg salt mseed tries sig work n sig' work'
   signs-worked {n = n} {sig' = sig'} {work' = work'} between s f t a b c d signed e₀ z h = go (satisfied sk) refl (sign_of r3 sk msg salt mseed tries) refl
     where
-      of_ours : Signed sk msg salt mseed tries sig n sig'
-      of_ours = rw (a, b, c, d, e₀) at signed
+      ours : Signed sk msg salt mseed tries sig n sig'
+      ours = rw (a, b, c, d, e₀) at signed
 
-      numbered : {m : ℕ} → n ≡ m → SignsMessage sk msg salt mseed tries sig work m sig' work' → SignsMessage sk msg salt mseed tries sig work n sig' work'
+      numbered : {m : ℕ} → n ≡ m → SignsMessage sk msg salt mseed tries sig work m sig' work'
+          → SignsMessage sk msg salt mseed tries sig work n sig' work'
       numbered e s = subst (λ (m : ℕ). SignsMessage sk msg salt mseed tries sig work m sig' work') (sym e) s
 
-      go : (b : Bool) → satisfied sk ≡ b → (o : Option (List ℕ)) → sign_of r3 sk msg salt mseed tries ≡ o → SignsMessage sk msg salt mseed tries sig work n sig' work'
+      go : (b : Bool) → satisfied sk ≡ b → (o : Option (List ℕ)) → sign_of r3 sk msg salt mseed tries ≡ o
+          → SignsMessage sk msg salt mseed tries sig work n sig' work'
       go false e o q =
-          numbered (of_ours.unsolved e).0 (signs-failed between (sign-unsatisfied sk msg salt mseed tries (length sig) (length work) s f t e) (of_ours.unsolved e).1 z h)
+          numbered (ours.unsolved e).0 (signs-failed between (sign-unsatisfied sk msg salt mseed tries (length sig) (length work) s f t e) (ours.unsolved e).1 z h)
       go true e none q =
-          numbered (of_ours.spent e q).0 (signs-failed between (sign-spent sk msg salt mseed tries (length sig) (length work) s f t e q) (of_ours.spent e q).1 z h)
+          numbered (ours.spent e q).0 (signs-failed between (sign-spent sk msg salt mseed tries (length sig) (length work) s f t e q) (ours.spent e q).1 z h)
       go true e (some b) q =
-          numbered (of_ours.done e b q).0
-          (signs-made between (sign-done sk msg salt mseed tries (length sig) (length work) s f t b e q ∙ ap done (sym (of_ours.done e b q).1)) z h)
+          numbered (ours.done e b q).0
+          (signs-made between (sign-done sk msg salt mseed tries (length sig) (length work) s f t b e q ∙ ap done (sym (ours.done e b q).1)) z h)
 
 module _ (pk msg sig work : List ℕ) where
   pub checks-refused : {n : ℕ} {work' : List ℕ} → check_all pk msg sig (length work) ≡ refused n → work' ≡ work

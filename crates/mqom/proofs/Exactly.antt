@@ -1,5 +1,5 @@
 -- Each number of each call is given exactly when document 01 says: both directions, the lowest number first. Assumes nothing.
-use mathlib.Core.Path.{◌≡◌, refl, sym}
+use mathlib.Core.Path.{◌≡◌, refl, sym, ◌∙◌}
 use mathlib.Core.Logic.Iff
 use mathlib.Core.Logic.{◌↔◌, ◌≢◌}
 use mathlib.Core.Bool.{Bool, true, false, true≢false}
@@ -7,6 +7,7 @@ use mathlib.Core.List.{List}
 use mathlib.Core.Option.{none, some}
 use Prim.Native.Nat.{ℕ, ◌<◌}
 use native.Mathlib.Omega.{arith}
+use Rattle.std.proofs.lemmas.Bool.{false_from_ne_true}
 use Rattle.paper.specs.Keys.{key_gen, satisfied}
 use Rattle.paper.specs.Alpha.{r3}
 use Rattle.paper.specs.Scheme.{sign_of, verif_of}
@@ -19,8 +20,7 @@ use Rattle.mqom.proofs.Asked.{tells-keygen, tells-sign, tells-check, tells-messa
 use Rattle.mqom.proofs.Search.{signed-with, spent}
 
 is_false : (t : Bool) → ¬ (t ≡ true) ↔ (t ≡ false)
-is_false true = (λ h. absurd (h refl), λ e k. true≢false e)
-is_false false = (λ h. refl, λ e k. true≢false (sym k))
+is_false t = (false_from_ne_true t, λ e k. true≢false (sym k ∙ e))
 
 -- ---- a flat product for a nested one
 

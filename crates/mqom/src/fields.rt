@@ -5,12 +5,14 @@ ghost use Rattle.std.specs.Prelude.{◌≡◌, ◌+◌, ◌*◌, ◌≤◌};
 ghost use Rattle.octets.specs.Lists.{part};
 ghost use Rattle.mqom.specs.Fields.{field_of, salt_in, com1_in, com2_in, lines_in, openings_in, paths_in, hiddens_in, corrections_in, nonce_in, line_in, path_in, hidden_commitment_in, correction_in};
 
+use crate::SIGNATURE;
+
 // The len bytes from at.
 fn piece(sig: &[u8], at: usize, len: usize) -> &[u8]
     requires { at + len ≤ 3484 }
     ensures { result.now ≡ field_of (part at len) sig.now }
 {
-    if sig.len() == 3484 {
+    if sig.len() == SIGNATURE {
         &sig[at..at + len]
     } else {
         &sig[..0]

@@ -3,10 +3,9 @@ use mathlib.Core.Path.{refl, ◌∙◌}
 use native.Mathlib.Omega.{arith}
 use borrow.Author.Tests.{eq-eqb}
 use lib.ListN.{replicate, length-set}
-use Rattle.std.proofs.lemmas.Bool.Decides.{Decides-eqb}
-use Rattle.std.proofs.lemmas.Slice.Eq.{slice_eq-Decides}
 use Rattle.cells.proofs.Cell.{write-gives-0, round_trip}
 use Rattle.octets.proofs.Bounds.{bytes-set, bytes-replicate}
+use Rattle.cell_edges.proofs.Edges.{told}
 use Rattle.cell_edges.proofs.back.Goals as goal
 
 pub expect-requires : goal.expect-requires
@@ -24,4 +23,4 @@ pub expect-requires-3 : goal.expect-requires-3
 expect-requires-3 c =
     let a = c.args in
     let f = bytes-set (replicate 60 a.a) a.i a.b (bytes-replicate 60 a.a (omega arith)) (omega arith) in
-    (slice_eq-Decides Decides-eqb _ _ _ c.eq.ensures).1 (round_trip f (length-set (replicate 60 a.a) a.i a.b) refl refl c.write_cell.ensures c.read_cell.ensures).2
+    told c.eq.ensures (round_trip f (length-set (replicate 60 a.a) a.i a.b) refl refl c.write_cell.ensures c.read_cell.ensures).2

@@ -2,10 +2,8 @@
 use mathlib.Core.Path.{◌∙◌}
 use borrow.Author.Tests.{eq-eqb}
 use lib.ListN.{replicate}
-use Rattle.std.proofs.lemmas.Bool.Decides.{Decides-eqb}
-use Rattle.std.proofs.lemmas.Slice.Eq.{slice_eq-Decides}
 use Rattle.cell_edges.specs.Edges.{but}
-use Rattle.cell_edges.proofs.Edges.{read-number, read_kept}
+use Rattle.cell_edges.proofs.Edges.{told, read-number, read_kept}
 use Rattle.cell_edges.proofs.refused.Goals as goal
 
 pub expect-requires : goal.expect-requires
@@ -15,4 +13,5 @@ expect-requires c = eq-eqb _ _ (c.number-r.ensures ∙ read-number c.args.m (rep
 pub expect-requires-2 : goal.expect-requires-2
 unfolding but
 expect-requires-2 c =
-    (slice_eq-Decides Decides-eqb _ _ _ c.eq.ensures).1 (read_kept c.args.m (replicate 61 0xaa) c.requires.out-fits c.read_cell.ensures c.requires.refused c.requires.refusal)
+    told c.eq.ensures
+    (read_kept c.args.m (replicate 61 0xaa) c.requires.out-fits c.read_cell.ensures c.requires.refused c.requires.refusal)

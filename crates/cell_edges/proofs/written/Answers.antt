@@ -2,10 +2,9 @@
 use mathlib.Core.Path.{refl, ◌∙◌}
 use borrow.Author.Tests.{eq-eqb}
 use lib.ListN.{replicate, length-set}
-use Rattle.std.proofs.lemmas.Bool.Decides.{Decides-eqb}
-use Rattle.std.proofs.lemmas.Slice.Eq.{slice_eq-Decides}
 use Rattle.cells.proofs.Answers.{write-0, write-unique}
 use Rattle.cell_edges.specs.Edges.{but}
+use Rattle.cell_edges.proofs.Edges.{told}
 use Rattle.cell_edges.proofs.written.Goals as goal
 
 pub expect-requires : goal.expect-requires
@@ -17,4 +16,4 @@ pub expect-requires-2 : goal.expect-requires-2
 unfolding but
 expect-requires-2 c =
     let u = write-unique c.write_cell.ensures (write-0 (length-set (replicate 60 0) c.args.i c.args.b) refl refl) in
-    (slice_eq-Decides Decides-eqb _ _ _ c.eq.ensures).1 (u.1 ∙ c.requires.text)
+    told c.eq.ensures (u.1 ∙ c.requires.text)

@@ -5,10 +5,10 @@ use Rattle.octets.specs.Lists.{part}
 use Rattle.mqom.specs.Fields.{field_of}
 use Rattle.mqom.proofs.fields.piece.Goals as goal
 
-pub returns-then-sig-eq3484 : goal.returns-then-sig-eq3484
+pub returns-then-sig-eq-SIGNATURE : goal.returns-then-sig-eq-SIGNATURE
 unfolding field_of part
-returns-then-sig-eq3484 c = simp (eq-eqb _ _ c.if-sig-eq3484.true, add-sub_cancel_left)
+returns-then-sig-eq-SIGNATURE c = simp (eq-eqb _ _ c.if-sig-eq-SIGNATURE.true, add-sub_cancel_left)
 
-pub returns-else-sig-eq3484 : goal.returns-else-sig-eq3484
+pub returns-else-sig-eq-SIGNATURE : goal.returns-else-sig-eq-SIGNATURE
 unfolding field_of part
-returns-else-sig-eq3484 c = simp (ne_eqb _ _ c.if-sig-eq3484.false)
+returns-else-sig-eq-SIGNATURE c = simp (ne_eqb _ _ c.if-sig-eq-SIGNATURE.false)
