@@ -36,8 +36,8 @@ fn put_values(vectors: &mut [u8], e: usize, x: [u8; 56], r: u8)
 }
 
 // What is hashed of repetition e at its places.
-fn keep_values(work: &mut [u8], e: usize, h: [u8; 32], u: [u8; 28], alpha1: &[u8], r: u8)
-    requires { (length work.old ≡ 65536) × (e < 17) × (length alpha1.now ≡ 28) }
+fn keep_values(work: &mut [u8; 65536], e: usize, h: [u8; 32], u: [u8; 28], alpha1: &[u8], r: u8)
+    requires { (e < 17) × (length alpha1.now ≡ 28) }
     ensures { work.new ≡ place (at_alpha0 + 28 * e) (rest_of u alpha1.now r) (place (at_hashes + 32 * e) h work.old) }
 {
     workspace::keep_hash(work, e, h);
@@ -46,8 +46,8 @@ fn keep_values(work: &mut [u8], e: usize, h: [u8; 32], u: [u8; 28], alpha1: &[u8
 }
 
 // Lines 3 to 17 for repetition e.
-fn eval_one(t: &Tables, sig: &[u8], work: &mut [u8], hidden: u8, e: usize)
-    requires { (length sig.now ≡ 3484) × (length work.old ≡ 65536) × (e < 17) }
+fn eval_one(t: &Tables, sig: &[u8; 3484], work: &mut [u8; 65536], hidden: u8, e: usize)
+    requires { e < 17 }
     ensures { (i : ℕ → ℕ) → i e ≡ hidden → EvaluatedIn sig.now i e work.old → EvaluatedIn sig.now i (e + 1) work.new }
 {
     let s = aes::load(sig, 0);
@@ -72,8 +72,7 @@ fn eval_one(t: &Tables, sig: &[u8], work: &mut [u8], hidden: u8, e: usize)
     keep_values(work, e, v.hash, v.u, &sig[b..b + 28], r);
 }
 
-fn eval_all(t: &Tables, sig: &[u8], c: &[u8], work: &mut [u8])
-    requires { (length sig.now ≡ 3484) × (length c.now ≡ 19) × (length work.old ≡ 65536) }
+fn eval_all(t: &Tables, sig: &[u8; 3484], c: &[u8; 19], work: &mut [u8; 65536])
     ensures { EvaluatedIn sig.now (hidden_in c.now) 17 work.new }
 {
     for e in 0..17 {
@@ -82,8 +81,7 @@ fn eval_all(t: &Tables, sig: &[u8], c: &[u8], work: &mut [u8])
 }
 
 // All repetitions, and whether the first commitment is the one that the signature carries (algorithm 5, lines 7 and 8).
-fn evaluate(t: &Tables, sig: &[u8], c: &[u8], work: &mut [u8]) -> bool
-    requires { (length sig.now ≡ 3484) × (length c.now ≡ 19) × (length work.old ≡ 65536) }
+fn evaluate(t: &Tables, sig: &[u8; 3484], c: &[u8; 19], work: &mut [u8; 65536]) -> bool
     ensures holds { EvaluatedIn sig.now (hidden_in c.now) 17 work.new }
     ensures same { result ≡ alike (com1_of sig.now (hidden_in c.now)) (sig_com1 r3 sig.now) }
 {
@@ -96,9 +94,9 @@ fn evaluate(t: &Tables, sig: &[u8], c: &[u8], work: &mut [u8]) -> bool
 // ---- RecomputePAlpha (algorithm 8)
 
 // Packed equation i at all points: v_z added in column i.
-fn recompute_one(t: &Tables, pk: &[u8], work: &mut [u8], i: usize)
-    requires pk_len { (length pk.now ≡ 60) × (length work.old ≡ 65536) × (i < 28) }
-    requires work_value { part 0 18304 work.old ≡ plain_keys }
+fn recompute_one(t: &Tables, pk: &[u8; 60], work: &mut [u8; 65536], i: usize)
+    requires i_bound { i < 28 }
+    requires keys { part 0 18304 work.old ≡ plain_keys }
     ensures keys { part 0 18304 work.new ≡ plain_keys }
     ensures adds { (x : ℕ → ℕ → ℕ) (p : ℕ → ℕ) (rest v : ℕ → ℕ → ℕ) → Vectors x p v → Recomputed pk.now x p rest v i work.old → Recomputed pk.now x p rest v (i + 1) work.new }
 {
@@ -109,9 +107,8 @@ fn recompute_one(t: &Tables, pk: &[u8], work: &mut [u8], i: usize)
     equations::add_column(&mut work[a..a + 476], i, z);
 }
 
-fn recompute_all(t: &Tables, pk: &[u8], work: &mut [u8])
-    requires pk_len { (length pk.now ≡ 60) × (length work.old ≡ 65536) }
-    requires work_value { part 0 18304 work.old ≡ plain_keys }
+fn recompute_all(t: &Tables, pk: &[u8; 60], work: &mut [u8; 65536])
+    requires { part 0 18304 work.old ≡ plain_keys }
     ensures { (x : ℕ → ℕ → ℕ) (p : ℕ → ℕ) (rest v : ℕ → ℕ → ℕ) → Vectors x p v → Recomputed pk.now x p rest v 0 work.old → Recomputed pk.now x p rest v 28 work.new }
 {
     for i in 0..28 {
@@ -120,8 +117,7 @@ fn recompute_all(t: &Tables, pk: &[u8], work: &mut [u8])
 }
 
 // The result lines, and whether the second commitment is the one that the signature carries (algorithm 5, lines 9 to 11).
-fn recompute(t: &Tables, pk: &[u8], sig: &[u8], work: &mut [u8]) -> bool
-    requires { (length pk.now ≡ 60) × (length sig.now ≡ 3484) × (length work.old ≡ 65536) }
+fn recompute(t: &Tables, pk: &[u8; 60], sig: &[u8; 3484], work: &mut [u8; 65536]) -> bool
     ensures { (i : ℕ → ℕ) → EvaluatedIn sig.now i 17 work.old → result ≡ alike (com2_of pk.now sig.now i) (sig_com2 r3 sig.now) }
 {
     let v = workspace::at_vectors();
@@ -136,8 +132,7 @@ fn recompute(t: &Tables, pk: &[u8], sig: &[u8], work: &mut [u8]) -> bool
 // ---- Verif (algorithm 5)
 
 // Whether sig is a signature of msg under pk. Nothing is promised of what is left in the workspace.
-pub fn verify(pk: &[u8], msg: &[u8], sig: &[u8], work: &mut [u8]) -> bool
-    requires { (length pk.now ≡ 60) × (length sig.now ≡ 3484) × (length work.old ≡ 65536) }
+pub fn verify(pk: &[u8; 60], msg: &[u8], sig: &[u8; 3484], work: &mut [u8; 65536]) -> bool
     ensures { result ≡ verif_of r3 pk.now msg.now sig.now }
 {
     let hash = transcript::fiat_shamir(pk, &sig[16..48], &sig[48..80], msg);

@@ -5,7 +5,7 @@ ghost use Rattle.std.specs.Prelude.{◌≡◌, List, ◌++◌, Bool, ℕ, ◌+�
 ghost use Rattle.octets.specs.Lists.{part, joined, bytes_of};
 ghost use Rattle.octets.specs.Place.{place};
 ghost use Rattle.aes.specs.Words.{block_of};
-ghost use Rattle.paper.specs.Keys.{solution_of};
+ghost use Rattle.paper.specs.Keys.{public_of, solution_of};
 ghost use Rattle.paper.specs.Commit.{rseed};
 ghost use Rattle.paper.specs.Challenge.{challenge, hidden_in};
 ghost use Rattle.seeds.specs.Expanded.{plain_keys};
@@ -23,11 +23,24 @@ pub enum Refused {
     Spent,
 }
 
+// Both parts of a secret key: the public key, and the solution.
+fn public(sk: &[u8; 88]) -> &[u8; 60]
+    ensures { result.now ≡ public_of sk.now }
+{
+    sk[0..60].as_array().unwrap()
+}
+
+fn solution(sk: &[u8; 88]) -> &[u8; 28]
+    ensures { result.now ≡ solution_of sk.now }
+{
+    sk[60..88].as_array().unwrap()
+}
+
 // ---- BLC.Commit (algorithm 10)
 
 // rseed[e] at its place.
-fn put_root(t: &Tables, work: &mut [u8], m: Cols, e: usize)
-    requires { (length work.old ≡ 65536) × (part 0 18304 work.old ≡ plain_keys) × (e < 17) }
+fn put_root(t: &Tables, work: &mut [u8; 65536], m: Cols, e: usize)
+    requires { (part 0 18304 work.old ≡ plain_keys) × (e < 17) }
     ensures { work.new ≡ place (at_roots + 16 * e) (rseed (block_of m) e) work.old }
 {
     let v = workspace::at_vectors();
@@ -35,8 +48,8 @@ fn put_root(t: &Tables, work: &mut [u8], m: Cols, e: usize)
     aes::store(work, workspace::ROOTS + 16 * e, r);
 }
 
-fn put_roots(t: &Tables, work: &mut [u8], m: Cols)
-    requires { (length work.old ≡ 65536) × (part 0 18304 work.old ≡ plain_keys) }
+fn put_roots(t: &Tables, work: &mut [u8; 65536], m: Cols)
+    requires { part 0 18304 work.old ≡ plain_keys }
     ensures { work.new ≡ place at_roots (joined 17 (rseed (block_of m))) work.old }
 {
     for e in 0..17 {
@@ -45,8 +58,8 @@ fn put_roots(t: &Tables, work: &mut [u8], m: Cols)
 }
 
 // What is hashed of repetition e at its places: u_0 and u_1 in Hash_3's input, hash_ls_com and the correction in Hash_7's.
-fn keep_lines(work: &mut [u8], e: usize, l: Lines)
-    requires { (length work.old ≡ 65536) × (e < 17) }
+fn keep_lines(work: &mut [u8; 65536], e: usize, l: Lines)
+    requires { e < 17 }
     ensures sizes { (length l.hash ≡ 32) × (length l.u0 ≡ 28) × (length l.u1 ≡ 28) × (length l.correction ≡ 12) }
     ensures kept { work.new ≡ place (at_sent + 12 * e) l.correction (place (at_alpha1 + 28 * e) l.u1 (place (at_alpha0 + 28 * e) l.u0 (place (at_hashes + 32 * e) l.hash work.old))) }
 {
@@ -56,8 +69,8 @@ fn keep_lines(work: &mut [u8], e: usize, l: Lines)
     octets::put(&l.correction, work, workspace::SENT + 12 * e);
 }
 
-fn commit_one(t: &Tables, x: &[u8], salt: Cols, work: &mut [u8], e: usize)
-    requires { (length x.now ≡ 28) × (length work.old ≡ 65536) × (e < 17) }
+fn commit_one(t: &Tables, x: &[u8; 28], salt: Cols, work: &mut [u8; 65536], e: usize)
+    requires { e < 17 }
     ensures keys { Within 18304 25049 work.old work.new }
     ensures adds { (m : List ℕ) → Committed m (block_of salt) x.now e work.old → Committed m (block_of salt) x.now (e + 1) work.new }
 {
@@ -69,8 +82,7 @@ fn commit_one(t: &Tables, x: &[u8], salt: Cols, work: &mut [u8], e: usize)
     keep_lines(work, e, l);
 }
 
-fn commit_all(t: &Tables, x: &[u8], salt: Cols, work: &mut [u8])
-    requires { (length x.now ≡ 28) × (length work.old ≡ 65536) }
+fn commit_all(t: &Tables, x: &[u8; 28], salt: Cols, work: &mut [u8; 65536])
     ensures keys { Within 18304 25049 work.old work.new }
     ensures adds { (m : List ℕ) → Committed m (block_of salt) x.now 0 work.old → Committed m (block_of salt) x.now 17 work.new }
 {
@@ -79,8 +91,7 @@ fn commit_all(t: &Tables, x: &[u8], salt: Cols, work: &mut [u8])
     }
 }
 
-fn commit(t: &Tables, x: &[u8], salt: &[u8], mseed: &[u8], work: &mut [u8])
-    requires { (length x.now ≡ 28) × (length salt.now ≡ 16) × (length mseed.now ≡ 16) × (length work.old ≡ 65536) }
+fn commit(t: &Tables, x: &[u8; 28], salt: &[u8; 16], mseed: &[u8; 16], work: &mut [u8; 65536])
     ensures keys { part 0 18304 work.new ≡ plain_keys }
     ensures adds { Committed mseed.now salt.now x.now 17 work.new }
 {
@@ -93,8 +104,8 @@ fn commit(t: &Tables, x: &[u8], salt: &[u8], mseed: &[u8], work: &mut [u8])
 // ---- ComputePAlpha (algorithm 6), and whether the solution satisfies the equations
 
 // Packed equation i on all lines: z_0 and z_1 added to u_0 and u_1. Gives 0 where the solution satisfies it.
-fn result_one(t: &Tables, pk: &[u8], work: &mut [u8], i: usize) -> u8
-    requires { (length pk.now ≡ 60) × (length work.old ≡ 65536) × (part 0 18304 work.old ≡ plain_keys) × (i < 28) }
+fn result_one(t: &Tables, pk: &[u8; 60], work: &mut [u8; 65536], i: usize) -> u8
+    requires { (part 0 18304 work.old ≡ plain_keys) × (i < 28) }
     ensures rest { Within 42401 952 work.old work.new }
     ensures adds { Adds pk.now i work.old result work.new }
 {
@@ -108,8 +119,8 @@ fn result_one(t: &Tables, pk: &[u8], work: &mut [u8], i: usize) -> u8
     z.z0[17] ^ pk[32 + i]
 }
 
-fn results(t: &Tables, pk: &[u8], work: &mut [u8]) -> bool
-    requires { (length pk.now ≡ 60) × (length work.old ≡ 65536) × (part 0 18304 work.old ≡ plain_keys) }
+fn results(t: &Tables, pk: &[u8; 60], work: &mut [u8; 65536]) -> bool
+    requires { part 0 18304 work.old ≡ plain_keys }
     ensures rest { Within 42401 952 work.old work.new }
     ensures adds { AddsAll pk.now work.old result work.new }
 {
@@ -121,22 +132,21 @@ fn results(t: &Tables, pk: &[u8], work: &mut [u8]) -> bool
 }
 
 // The lines and the solution as vectors, and their result lines.
-fn alphas(t: &Tables, sk: &[u8], work: &mut [u8]) -> bool
-    requires { (length sk.now ≡ 88) × (length work.old ≡ 65536) × (part 0 18304 work.old ≡ plain_keys) }
+fn alphas(t: &Tables, sk: &[u8; 88], work: &mut [u8; 65536]) -> bool
+    requires { part 0 18304 work.old ≡ plain_keys }
     ensures { (salt m : List ℕ) → Committed m salt (solution_of sk.now) 17 work.old → Prepared sk.now salt m result work.new }
 {
     let v = workspace::at_vectors();
-    equations::put_solution(&sk[60..88], &mut work[v..v + 10944]);
+    equations::put_solution(solution(sk), &mut work[v..v + 10944]);
     equations::spread(&mut work[v..v + 10944]);
-    results(t, &sk[0..60], work)
+    results(t, public(sk), work)
 }
 
 // Whether the solution satisfies the equations: a bool, since of the refusals only one can come of this.
-fn prepare(t: &Tables, sk: &[u8], salt: &[u8], mseed: &[u8], work: &mut [u8]) -> bool
-    requires { (length sk.now ≡ 88) × (length salt.now ≡ 16) × (length mseed.now ≡ 16) × (length work.old ≡ 65536) }
+fn prepare(t: &Tables, sk: &[u8; 88], salt: &[u8; 16], mseed: &[u8; 16], work: &mut [u8; 65536]) -> bool
     ensures { Prepared sk.now salt.now mseed.now result work.new }
 {
-    commit(t, &sk[60..88], salt, mseed, work);
+    commit(t, solution(sk), salt, mseed, work);
     alphas(t, sk, work)
 }
 
@@ -145,14 +155,14 @@ fn prepare(t: &Tables, sk: &[u8], salt: &[u8], mseed: &[u8], work: &mut [u8]) ->
 // The opening of repetition e, field by field, each in the middle of the signature (algorithm 11).
 fn write_opening(
     t: &Tables,
-    x: &[u8],
+    x: &[u8; 28],
     salt: Cols,
     hidden: usize,
-    work: &[u8],
-    sig: &mut [u8],
+    work: &[u8; 65536],
+    sig: &mut [u8; 3484],
     e: usize,
 )
-    requires { (length x.now ≡ 28) × (hidden < 256) × (length work.now ≡ 65536) × (length sig.old ≡ 3484) × (e < 17) }
+    requires { (hidden < 256) × (e < 17) }
     ensures { (m : List ℕ) → Openable m (block_of salt) x.now work.now → sig.new ≡ opening_at m (block_of salt) x.now (λ k. hidden) e sig.old }
 {
     let root = aes::load(work, workspace::ROOTS + 16 * e);
@@ -163,8 +173,7 @@ fn write_opening(
     octets::put(&work[f..f + 12], sig, 3276 + 12 * e);
 }
 
-fn write_openings(t: &Tables, x: &[u8], salt: Cols, c: &[u8], work: &[u8], sig: &mut [u8])
-    requires { (length x.now ≡ 28) × (length c.now ≡ 19) × (length work.now ≡ 65536) × (length sig.old ≡ 3484) }
+fn write_openings(t: &Tables, x: &[u8; 28], salt: Cols, c: &[u8; 19], work: &[u8; 65536], sig: &mut [u8; 3484])
     ensures { (m : List ℕ) → Openable m (block_of salt) x.now work.now → sig.new ≡ openings m (block_of salt) x.now (hidden_in c.now) 17 sig.old }
 {
     for e in 0..17 {
@@ -173,8 +182,7 @@ fn write_openings(t: &Tables, x: &[u8], salt: Cols, c: &[u8], work: &[u8], sig: 
 }
 
 // Salt, com_1, com_2, alpha_1.
-fn write_head(salt: &[u8], com1: &[u8], com2: &[u8], work: &[u8], sig: &mut [u8])
-    requires { (length salt.now ≡ 16) × (length com1.now ≡ 32) × (length com2.now ≡ 32) × (length work.now ≡ 65536) × (length sig.old ≡ 3484) }
+fn write_head(salt: &[u8; 16], com1: &[u8; 32], com2: &[u8; 32], work: &[u8; 65536], sig: &mut [u8; 3484])
     ensures { sig.new ≡ place 0 (salt.now ++ (com1.now ++ (com2.now ++ part at_alpha1 476 work.now))) sig.old }
 {
     octets::put(salt, sig, 0);
@@ -187,40 +195,38 @@ fn write_head(salt: &[u8], com1: &[u8], com2: &[u8], work: &[u8], sig: &mut [u8]
 // The whole signature, with the nonce that was found.
 fn write_signature(
     t: &Tables,
-    sk: &[u8],
-    salt: &[u8],
-    com1: &[u8],
-    com2: &[u8],
+    sk: &[u8; 88],
+    salt: &[u8; 16],
+    com1: &[u8; 32],
+    com2: &[u8; 32],
     hash: &[u8; 32],
     nonce: u32,
-    work: &[u8],
-    sig: &mut [u8],
+    work: &[u8; 65536],
+    sig: &mut [u8; 3484],
 )
-    requires { (length sk.now ≡ 88) × (length salt.now ≡ 16) × (length com1.now ≡ 32) × (length com2.now ≡ 32) × (length work.now ≡ 65536) × (length sig.old ≡ 3484) }
     ensures { (m : List ℕ) → Openable m salt.now (solution_of sk.now) work.now → sig.new ≡ signature_of m salt.now (solution_of sk.now) com1.now com2.now (part at_alpha1 476 work.now) (challenge hash.now (bytes_of 4 nonce)) (bytes_of 4 nonce) }
 {
     write_head(salt, com1, com2, work, sig);
     transcript::put_nonce(nonce, &mut sig[3480..3484]);
     let c = transcript::sample(hash, &sig[3480..3484]);
-    write_openings(t, &sk[60..88], aes::load(salt, 0), &c, work, sig);
+    write_openings(t, solution(sk), aes::load(salt, 0), &c, work, sig);
 }
 
 // The challenge, and the signature where a nonce is found.
 fn answer(
     t: &Tables,
-    sk: &[u8],
+    sk: &[u8; 88],
     msg: &[u8],
-    salt: &[u8],
+    salt: &[u8; 16],
     tries: u32,
-    sig: &mut [u8],
-    work: &mut [u8],
+    sig: &mut [u8; 3484],
+    work: &mut [u8; 65536],
 ) -> Result<(), Refused>
-    requires { (length sk.now ≡ 88) × (length salt.now ≡ 16) × (length sig.old ≡ 3484) × (length work.old ≡ 65536) }
     ensures { (m : List ℕ) (ok : Bool) → length m ≡ 16 → Prepared sk.now salt.now m ok work.old → Answers sk.now msg.now salt.now m tries sig.old (number_of result) sig.new }
 {
     let a = workspace::first_commitment(work);
     let b = workspace::second_commitment(work);
-    let hash = transcript::fiat_shamir(&sk[0..60], &a, &b, msg);
+    let hash = transcript::fiat_shamir(public(sk), &a, &b, msg);
     match transcript::first_nonce(&hash, tries) {
         Some(nonce) => {
             write_signature(t, sk, salt, &a, &b, &hash, nonce, work, sig);
@@ -232,15 +238,14 @@ fn answer(
 
 // Sign (algorithm 3) with so many tries. Nothing is written to the signature where it is refused.
 pub fn sign(
-    sk: &[u8],
+    sk: &[u8; 88],
     msg: &[u8],
-    salt: &[u8],
-    mseed: &[u8],
+    salt: &[u8; 16],
+    mseed: &[u8; 16],
     tries: u32,
-    sig: &mut [u8],
-    work: &mut [u8],
+    sig: &mut [u8; 3484],
+    work: &mut [u8; 65536],
 ) -> Result<(), Refused>
-    requires { (length sk.now ≡ 88) × (length salt.now ≡ 16) × (length mseed.now ≡ 16) × (length sig.old ≡ 3484) × (length work.old ≡ 65536) }
     ensures { Signed sk.now msg.now salt.now mseed.now tries sig.old (number_of result) sig.new }
 {
     let mut words = [0u32; 1024];

@@ -14,16 +14,15 @@ returns c =
     let w = c.args.work.now in
     let z = c.args.sig.now in
     let e = c.args.e in
-    let h = c.requires in
     let salt = c.load-s.ensures in
     let a = c.at_tree-a in
     let k = c.eval-v in
     let b = c.at_vectors-m in
     let r = c.point-r.ensures in
     let p = c.put_values in
-    let f = lent a.result at_tree 12289 a.ensures k.new.room c.args.work.now (omega (arith, c.requires)) k.auto.room in
-    let g = lent b.result at_vectors 10944 b.ensures p.new.vectors _ (omega (arith, c.requires, length-after f)) p.auto.vectors in
+    let f = lent a.result at_tree 12289 a.ensures k.new.room c.args.work.now (omega arith) k.auto.room in
+    let g = lent b.result at_vectors 10944 b.ensures p.new.vectors _ (omega (arith, length-after f)) p.auto.vectors in
     λ i q o.
-    let v = k.ensures (sig_paths r3 z) (sig_outs r3 z) (sig_sent r3 z) (path-is z e h.0 h.2) (out-is z e h.0 h.2) (sent_is z e h.0 h.2) in
-    evaluated-code w _ _ _ _ _ _ h.1 f g e _ _ _ _ _ _ h.2 c.keep_values.ensures p.ensures
-    (sig_salt r3 z) (sig_paths r3 z) (sig_outs r3 z) (sig_sent r3 z) (sig_alpha1 r3 z) i _ c.args.hidden salt q (alpha1-is z e h.0 h.2) r v.x-is v.hash-is v.u-is o
+    let v = k.ensures (sig_paths r3 z) (sig_outs r3 z) (sig_sent r3 z) (path-is z e c.told-sig c.requires) (out-is z e c.told-sig c.requires) (sent_is z e c.told-sig c.requires) in
+    evaluated-code w _ _ _ _ _ _ c.told-work f g e _ _ _ _ _ _ c.requires c.keep_values.ensures p.ensures
+    (sig_salt r3 z) (sig_paths r3 z) (sig_outs r3 z) (sig_sent r3 z) (sig_alpha1 r3 z) i _ c.args.hidden salt q (alpha1-is z e c.told-sig c.requires) r v.x-is v.hash-is v.u-is o

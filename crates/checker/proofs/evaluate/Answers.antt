@@ -1,5 +1,5 @@
 -- `checker::evaluate` meets its contract. Assumes nothing.
-use mathlib.Core.Path.{◌∙◌}
+use Rattle.std.proofs.Common.{arith}
 use Rattle.octets.specs.Lists.{part}
 use Rattle.paper.specs.Challenge.{hidden_in}
 use Rattle.checker.proofs.Lent.{evaluate-holds, evaluate-same}
@@ -11,10 +11,9 @@ returns-clause-holds c =
     let g = c.args.sig.now in
     let i = hidden_in c.args.c.now in
     let a = c.eval_all in
-    let l = a.auto.work ∙ c.requires.2 in
     let p = c.put.ensures in
     let f = c.first_commitment-a.ensures in
-    evaluate-holds g i _ c.requires.0 l a.ensures _ _ _ p f.rest
+    evaluate-holds g i _ c.told-sig (omega arith) a.ensures _ _ _ p f.rest
 
 pub returns-clause-same : goal.returns-clause-same
 unfolding part
@@ -22,7 +21,6 @@ returns-clause-same c =
     let g = c.args.sig.now in
     let i = hidden_in c.args.c.now in
     let a = c.eval_all in
-    let l = a.auto.work ∙ c.requires.2 in
     let p = c.put.ensures in
     let f = c.first_commitment-a.ensures in
-    evaluate-same g i _ c.requires.0 l a.ensures _ _ _ p f.hash c.same.ensures
+    evaluate-same g i _ c.told-sig (omega arith) a.ensures _ _ _ p f.hash c.same.ensures

@@ -13,27 +13,25 @@ pub expand-q-requires-clause-keys_value : goal.expand-q-requires-clause-keys_val
 unfolding part
 expand-q-requires-clause-keys_value c =
     let b = c.at_vectors-v in
-    ap (λ (k : ℕ). part 0 k c.args.work.now) b.ensures ∙ c.requires.work_value
+    ap (λ (k : ℕ). part 0 k c.args.work.now) b.ensures ∙ c.requires.keys
 
 pub returns-clause-keys : goal.returns-clause-keys
 unfolding part mseed_eq_of
 returns-clause-keys c =
     let w = c.args.work.now in
-    let h = c.requires.pk_len in
     let a = c.at_alpha0-a in
     let y = c.add_column in
-    let f = lent a.result at_alpha0 476 a.ensures y.new.out w (omega (arith, h)) y.auto.out in
-    recomputed-keys w _ _ _ h.1 f c.requires.work_value
+    let f = lent a.result at_alpha0 476 a.ensures y.new.out w (omega arith) y.auto.out in
+    recomputed-keys w _ _ _ c.told-work f c.requires.keys
 
 pub returns-clause-adds : goal.returns-clause-adds
 unfolding part mseed_eq_of
 returns-clause-adds c =
     let w = c.args.work.now in
-    let h = c.requires.pk_len in
     let q = c.expand-q.ensures in
     let z = c.at_points-z.ensures in
     let b = c.at_vectors-v in
     let a = c.at_alpha0-a in
     let y = c.add_column in
-    let f = lent a.result at_alpha0 476 a.ensures y.new.out w (omega (arith, h)) y.auto.out in
-    recomputed-one w _ _ _ h.1 f c.args.pk.now _ _ _ c.args.i h.2 q (slice_at b.result at_vectors 10944 b.ensures w) z y.ensures
+    let f = lent a.result at_alpha0 476 a.ensures y.new.out w (omega arith) y.auto.out in
+    recomputed-one w _ _ _ c.told-work f c.args.pk.now _ _ _ c.args.i c.requires.i_bound q (slice_at b.result at_vectors 10944 b.ensures w) z y.ensures

@@ -13,9 +13,9 @@ returns-clause-keys c =
     let v = c.at_vectors-v in
     let p = c.put_lane in
     let z = c.keep_lines.ensures.sizes in
-    let g = lent a.result at_tree 12289 a.ensures k.new.room c.args.work.now (omega (arith, c.requires)) k.auto.room in
-    let h = lent v.result at_vectors 10944 v.ensures p.new.vectors _ (omega (arith, c.requires, length-after g)) p.auto.vectors in
-    one-within c.args.work.now _ _ _ _ _ _ c.requires.1 g h c.args.e _ _ _ _ c.requires.2 z.0 z.1 z.2 z.3 c.keep_lines.ensures.kept
+    let g = lent a.result at_tree 12289 a.ensures k.new.room c.args.work.now (omega arith) k.auto.room in
+    let h = lent v.result at_vectors 10944 v.ensures p.new.vectors _ (omega (arith, length-after g)) p.auto.vectors in
+    one-within c.args.work.now _ _ _ _ _ _ (omega arith) g h c.args.e _ _ _ _ c.requires z.0 z.1 z.2 z.3 c.keep_lines.ensures.kept
 
 pub returns-clause-adds : goal.returns-clause-adds
 returns-clause-adds c =
@@ -24,9 +24,9 @@ returns-clause-adds c =
     let v = c.at_vectors-v in
     let p = c.put_lane in
     let z = c.keep_lines.ensures.sizes in
-    let g = lent a.result at_tree 12289 a.ensures k.new.room c.args.work.now (omega (arith, c.requires)) k.auto.room in
-    let h = lent v.result at_vectors 10944 v.ensures p.new.vectors _ (omega (arith, c.requires, length-after g)) p.auto.vectors in
+    let g = lent a.result at_tree 12289 a.ensures k.new.room c.args.work.now (omega arith) k.auto.room in
+    let h = lent v.result at_vectors 10944 v.ensures p.new.vectors _ (omega (arith, length-after g)) p.auto.vectors in
     λ m d.
-    let l = k.ensures m (c.load-r.ensures ∙ d.roots c.args.e c.requires.2) in
-    one-committed c.args.work.now _ _ _ _ _ _ c.requires.1 g h c.args.e _ _ _ _ c.requires.2 z.0 z.1 z.2 z.3 c.keep_lines.ensures.kept
+    let l = k.ensures m (c.load-r.ensures ∙ d.roots c.args.e c.requires) in
+    one-committed c.args.work.now _ _ _ _ _ _ (omega arith) g h c.args.e _ _ _ _ c.requires z.0 z.1 z.2 z.3 c.keep_lines.ensures.kept
     m _ _ _ p.ensures l.x0-is l.hash-is l.correction-is l.u0-is l.u1-is d

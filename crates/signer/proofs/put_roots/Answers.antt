@@ -16,8 +16,7 @@ pub put_root-requires : goal.put_root-requires
 put_root-requires c =
     let l = c.loop-e in
     let w = c.args.work.now in (
-      l.auto.work ∙ c.requires.0,
-      ap (part 0 18304) l.invariant ∙ part-before 0 18304 at_roots (joined l.e (rseed (block_of c.args.m))) w (omega arith) (omega arith) ∙ c.requires.1,
+      ap (part 0 18304) l.invariant ∙ part-before 0 18304 at_roots (joined l.e (rseed (block_of c.args.m))) w (omega arith) (omega arith) ∙ c.requires,
       omega arith,
     )
 

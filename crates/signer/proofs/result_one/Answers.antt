@@ -11,7 +11,7 @@ use Rattle.signer.proofs.result_one.Goals as goal
 
 pub expand-q-requires-clause-keys_value : goal.expand-q-requires-clause-keys_value
 unfolding part
-expand-q-requires-clause-keys_value c = let w = c.args.work.now in ap (λ (k : ℕ). part 0 k w) c.at_vectors-v.ensures ∙ c.requires.2
+expand-q-requires-clause-keys_value c = let w = c.args.work.now in ap (λ (k : ℕ). part 0 k w) c.at_vectors-v.ensures ∙ c.requires.0
 
 pub returns-clause-rest : goal.returns-clause-rest
 unfolding part mseed_eq_of
@@ -22,9 +22,9 @@ returns-clause-rest c =
     let k = c.add_column in
     let b = c.at_alpha1-b in
     let l = c.add_column-2 in
-    let g = lent a.result at_alpha0 476 a.ensures k.new.out c.args.work.now (omega (arith, c.requires)) k.auto.out in
-    let h = lent b.result at_alpha1 476 b.ensures l.new.out _ (omega (arith, c.requires, length-after g)) l.auto.out in
-    one-within i w _ _ _ _ _ _ c.requires.3 c.requires.1 g h
+    let g = lent a.result at_alpha0 476 a.ensures k.new.out c.args.work.now (omega arith) k.auto.out in
+    let h = lent b.result at_alpha1 476 b.ensures l.new.out _ (omega (arith, length-after g)) l.auto.out in
+    one-within i w _ _ _ _ _ _ c.requires.1 (omega arith) g h
 
 pub returns-clause-adds : goal.returns-clause-adds
 unfolding part mseed_eq_of
@@ -36,7 +36,7 @@ returns-clause-adds c =
     let k = c.add_column in
     let b = c.at_alpha1-b in
     let l = c.add_column-2 in
-    let g = lent a.result at_alpha0 476 a.ensures k.new.out c.args.work.now (omega (arith, c.requires)) k.auto.out in
-    let h = lent b.result at_alpha1 476 b.ensures l.new.out _ (omega (arith, c.requires, length-after g)) l.auto.out in
-    one-adds i w _ _ _ _ _ _ c.requires.3 c.requires.1 g h c.args.pk.now _ _ _ _ c.expand-q.ensures
+    let g = lent a.result at_alpha0 476 a.ensures k.new.out c.args.work.now (omega arith) k.auto.out in
+    let h = lent b.result at_alpha1 476 b.ensures l.new.out _ (omega (arith, length-after g)) l.auto.out in
+    one-adds i w _ _ _ _ _ _ c.requires.1 (omega arith) g h c.args.pk.now _ _ _ _ c.expand-q.ensures
     (slice_at v.result at_vectors 10944 v.ensures w) c.on_lines-z.ensures k.ensures l.ensures

@@ -1,7 +1,5 @@
 -- `signer::write_head` meets its contract. Assumes nothing.
-use mathlib.Core.Path.{ap, ◌∙◌}
-use mathlib.Core.List.{List, ◌++◌}
-use Prim.Native.Nat.{ℕ}
+use Rattle.std.proofs.Common.{arith, ℕ, List, ◌++◌, ap, ◌∙◌}
 use Rattle.octets.specs.Place.{place}
 use Rattle.workspace.specs.Map.{at_alpha1}
 use Rattle.workspace.proofs.Lent.{slice_at}
@@ -11,8 +9,7 @@ use Rattle.signer.proofs.write_head.Goals as goal
 pub returns : goal.returns
 returns c =
     let a = c.args in
-    let p = c.requires in
     let v = c.at_alpha1-a in
     let e = slice_at v.result at_alpha1 476 v.ensures a.work.now in
-    head-written a.salt.now a.com1.now a.com2.now _ a.sig.now p.0 p.1 p.2 c.put.ensures c.put-2.ensures c.put-3.ensures c.put-4.ensures
+    head-written a.salt.now a.com1.now a.com2.now _ a.sig.now (omega arith) (omega arith) (omega arith) c.put.ensures c.put-2.ensures c.put-3.ensures c.put-4.ensures
     ∙ ap (λ (l : List ℕ). place 0 (a.salt.now ++ (a.com1.now ++ (a.com2.now ++ l))) a.sig.now) e

@@ -11,8 +11,8 @@ pub returns : goal.returns
 returns c =
     let a = c.args in
     let r = c.reveal-c in
-    let l = lent (556 + 128 * a.e) (556 + 128 * a.e) 128 refl r.new.path a.sig.now (omega (arith, c.requires)) r.auto.path in
+    let l = lent (556 + 128 * a.e) (556 + 128 * a.e) 128 refl r.new.path a.sig.now (omega arith) r.auto.path in
     λ m g.
-    let v = r.ensures m (c.load-root.ensures ∙ g.roots a.e c.requires.4) in
-    opening-written m _ a.x.now (λ k. a.hidden) a.e a.work.now a.sig.now _ _ _ _ _ _ _ c.requires.4 g l v.path-is v.out-is
+    let v = r.ensures m (c.load-root.ensures ∙ g.roots a.e c.requires.1) in
+    opening-written m _ a.x.now (λ k. a.hidden) a.e a.work.now a.sig.now _ _ _ _ _ _ _ c.requires.1 g l v.path-is v.out-is
     c.put.ensures (slice_is (at_sent + 12 * a.e) 12 a.work.now) c.put-2.ensures

@@ -16,4 +16,4 @@ loop-e-preserved c =
     λ m g.
     c.write_opening.ensures m g
     ∙ ap (opening_at m _ a.x.now (hidden_in a.c.now) l.e) (l.invariant m g)
-    ∙ openings-turn m _ a.x.now (hidden_in a.c.now) g.seed c.requires.0 (λ k. (c.type_inv.c k).fits) l.e a.sig.now (omega arith)
+    ∙ openings-turn m _ a.x.now (hidden_in a.c.now) g.seed (omega arith) c.fits-c l.e a.sig.now (omega arith)
