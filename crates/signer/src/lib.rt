@@ -143,7 +143,13 @@ fn alphas(t: &Tables, sk: &[u8; 88], work: &mut [u8; 65536]) -> bool
 }
 
 // Whether the solution satisfies the equations: a bool, since of the refusals only one can come of this.
-fn prepare(t: &Tables, sk: &[u8; 88], salt: &[u8; 16], mseed: &[u8; 16], work: &mut [u8; 65536]) -> bool
+fn prepare(
+    t: &Tables,
+    sk: &[u8; 88],
+    salt: &[u8; 16],
+    mseed: &[u8; 16],
+    work: &mut [u8; 65536],
+) -> bool
     ensures { Prepared sk.now salt.now mseed.now result work.new }
 {
     commit(t, solution(sk), salt, mseed, work);
@@ -173,7 +179,14 @@ fn write_opening(
     octets::put(&work[f..f + 12], sig, 3276 + 12 * e);
 }
 
-fn write_openings(t: &Tables, x: &[u8; 28], salt: Cols, c: &[u8; 19], work: &[u8; 65536], sig: &mut [u8; 3484])
+fn write_openings(
+    t: &Tables,
+    x: &[u8; 28],
+    salt: Cols,
+    c: &[u8; 19],
+    work: &[u8; 65536],
+    sig: &mut [u8; 3484],
+)
     ensures { (m : List ℕ) → Openable m (block_of salt) x.now work.now → sig.new ≡ openings m (block_of salt) x.now (hidden_in c.now) 17 sig.old }
 {
     for e in 0..17 {
@@ -182,7 +195,13 @@ fn write_openings(t: &Tables, x: &[u8; 28], salt: Cols, c: &[u8; 19], work: &[u8
 }
 
 // Salt, com_1, com_2, alpha_1.
-fn write_head(salt: &[u8; 16], com1: &[u8; 32], com2: &[u8; 32], work: &[u8; 65536], sig: &mut [u8; 3484])
+fn write_head(
+    salt: &[u8; 16],
+    com1: &[u8; 32],
+    com2: &[u8; 32],
+    work: &[u8; 65536],
+    sig: &mut [u8; 3484],
+)
     ensures { sig.new ≡ place 0 (salt.now ++ (com1.now ++ (com2.now ++ part at_alpha1 476 work.now))) sig.old }
 {
     octets::put(salt, sig, 0);
