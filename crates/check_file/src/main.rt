@@ -3,18 +3,18 @@
 #![tactic(auto)]
 
 use files::Failure;
-use mqom::Refusal;
+use mqom::{MESSAGE, PUBLIC_KEY, Refusal, SIGNATURE, WORKSPACE};
 use std::rt::{Env, Files};
 
 fn run<R: Env + Files>(rt: &R) -> Result<(), Failure<Refusal>> {
     files::expect_words(rt, 3)?;
-    let mut pk = [0u8; 61];
+    let mut pk = [0u8; PUBLIC_KEY + 1];
     let pk = files::read(rt, 1, &mut pk)?;
-    let mut msg = [0u8; 65537];
+    let mut msg = [0u8; MESSAGE + 1];
     let msg = files::read(rt, 2, &mut msg)?;
-    let mut sig = [0u8; 3485];
+    let mut sig = [0u8; SIGNATURE + 1];
     let sig = files::read(rt, 3, &mut sig)?;
-    let mut work = [0u8; 65536];
+    let mut work = [0u8; WORKSPACE];
     mqom::check(pk, msg, sig, &mut work).map_err(Failure::Refused)
 }
 

@@ -3,35 +3,26 @@
 #![tactic(auto)]
 
 use files::Failure;
-use mqom::Refusal;
+use mqom::{MASTER_SEED, MESSAGE, Refusal, SALT, SECRET_KEY, SIGNATURE, WORKSPACE};
 use std::random::RandomSource;
 use std::rt::{Env, Files};
 
 fn run<R: Env + Files + RandomSource + Eprint>(rt: &R) -> Result<(), Failure<Refusal>> {
     files::expect_words(rt, 6)?;
-    let mut sk = [0u8; 89];
+    let mut sk = [0u8; SECRET_KEY + 1];
     let sk = files::read(rt, 1, &mut sk)?;
-    let mut msg = [0u8; 65537];
+    let mut msg = [0u8; MESSAGE + 1];
     let msg = files::read(rt, 2, &mut msg)?;
-    let mut salt = [0u8; 17];
+    let mut salt = [0u8; SALT + 1];
     let salt = files::read(rt, 3, &mut salt)?;
-    let mut mseed = [0u8; 17];
+    let mut mseed = [0u8; MASTER_SEED + 1];
     let mseed = files::read(rt, 4, &mut mseed)?;
     let mut tries = [0u8; 5];
     let tries = files::read(rt, 5, &mut tries)?;
-    let tries = tries.as_array::<4>().ok_or(Failure::Input)?;
-    let mut sig = [0u8; 3484];
-    let mut work = [0u8; 65536];
-    mqom::sign(
-        sk,
-        msg,
-        salt,
-        mseed,
-        files::low_first(tries),
-        &mut sig,
-        &mut work,
-    )
-    .map_err(Failure::Refused)?;
+    let tries = files::low_first(tries.as_array().ok_or(Failure::Input)?);
+    let mut sig = [0u8; SIGNATURE];
+    let mut work = [0u8; WORKSPACE];
+    mqom::sign(sk, msg, salt, mseed, tries, &mut sig, &mut work).map_err(Failure::Refused)?;
     files::store(rt, 6, &sig)?;
     Ok(())
 }
