@@ -1,7 +1,7 @@
 // The workspace: where things stand in it, and what signing and checking do with it alike.
 #![tactic(auto)]
 
-ghost use Rattle.std.specs.Prelude.{◌≡◌, [], ◌∷◌, ◌+◌, ◌-◌, ◌*◌, ◌<◌, ◌≤◌, length};
+ghost use Rattle.std.specs.Prelude.{◌≡◌, [], ◌∷◌, ◌+◌, ◌-◌, ◌*◌, ◌<◌, ◌≤◌};
 ghost use Rattle.octets.specs.Lists.{part};
 ghost use Rattle.octets.specs.Place.{place};
 ghost use Rattle.paper.specs.Symmetric.{hash as hash_of, selector as selector_of, for_alphas, for_commitment};
@@ -59,16 +59,16 @@ pub fn at_alpha1() -> usize
 }
 
 // hash_ls_com[e] at its place.
-pub fn keep_hash(work: &mut [u8], e: usize, h: [u8; 32])
-    requires { (length work.old ≡ 65536) × (e < 17) }
+pub fn keep_hash(work: &mut [u8; 65536], e: usize, h: [u8; 32])
+    requires { e < 17 }
     ensures { work.new ≡ place (at_hashes + 32 * e) h work.old }
 {
     octets::put(&h, work, HASHES + 32 * e);
 }
 
 // The purpose's selector is put at `at`, and what stands there up to the end is hashed.
-fn commitment(work: &mut [u8], at: usize, end: usize, purpose: Purpose) -> [u8; 32]
-    requires { (at < end) × (end ≤ length work.old) }
+fn commitment(work: &mut [u8; 65536], at: usize, end: usize, purpose: Purpose) -> [u8; 32]
+    requires { (at < end) × (end ≤ 65536) }
     ensures hash { result ≡ hash_of (place_of purpose) (part (at + 1) (end - at - 1) work.old) }
     ensures rest { work.new ≡ place at (selector_of (place_of purpose) ∷ []) work.old }
 {
@@ -77,8 +77,7 @@ fn commitment(work: &mut [u8], at: usize, end: usize, purpose: Purpose) -> [u8; 
 }
 
 // com_1: Hash_7 of the hashes and the corrections.
-pub fn first_commitment(work: &mut [u8]) -> [u8; 32]
-    requires { length work.old ≡ 65536 }
+pub fn first_commitment(work: &mut [u8; 65536]) -> [u8; 32]
     ensures hash { result ≡ hash_of for_commitment (part at_hashes 748 work.old) }
     ensures rest { work.new ≡ place at_com1 (selector_of for_commitment ∷ []) work.old }
 {
@@ -86,8 +85,7 @@ pub fn first_commitment(work: &mut [u8]) -> [u8; 32]
 }
 
 // com_2: Hash_3 of alpha_0 and alpha_1.
-pub fn second_commitment(work: &mut [u8]) -> [u8; 32]
-    requires { length work.old ≡ 65536 }
+pub fn second_commitment(work: &mut [u8; 65536]) -> [u8; 32]
     ensures hash { result ≡ hash_of for_alphas (part at_alpha0 952 work.old) }
     ensures rest { work.new ≡ place at_com2 (selector_of for_alphas ∷ []) work.old }
 {
