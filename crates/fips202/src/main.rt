@@ -20,6 +20,7 @@ fn fed_parts(text: &[u8], k: usize) -> Sponge
     ensures { result ≡ fed text.now }
 {
     let mut s = Sponge::new();
+    // `t`, since the checker wants a call's array in a fresh local.
     for part in text.chunks(k) {
         let t = s.absorb(part);
         s = t;
