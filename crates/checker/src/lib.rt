@@ -102,7 +102,7 @@ fn recompute_one(t: &Tables, pk: &[u8; 60], work: &mut [u8; 65536], i: usize)
 {
     let v = workspace::at_vectors();
     let q = equations::expansion::expand(t, &work[..v], &pk[0..32], i);
-    let z = equations::at_points(&work[v..v + 10944], &q, pk[32 + i]);
+    let z = equations::at_points(work[v..v + 10944].as_array().unwrap(), &q, pk[32 + i]);
     let a = workspace::at_alpha0();
     equations::add_column(&mut work[a..a + 476], i, z);
 }

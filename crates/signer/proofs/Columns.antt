@@ -10,7 +10,7 @@ use lib.ListN.{length}
 use Rattle.octets.specs.Xor.{◌⊕◌}
 use Rattle.octets.specs.Lists.{vec, part}
 use Rattle.octets.specs.Place.{place}
-use Rattle.octets.proofs.Tab.{length-tab, vec-tab}
+use Rattle.octets.proofs.Tab.{vec-tab}
 use Rattle.octets.proofs.Part.{vec-part}
 use Rattle.octets.proofs.Alike.{Gathered, gathered-start, gathered-turn, gathered-end}
 use Rattle.octets.proofs.Place.{length-place}

@@ -111,7 +111,7 @@ fn result_one(t: &Tables, pk: &[u8; 60], work: &mut [u8; 65536], i: usize) -> u8
 {
     let v = workspace::at_vectors();
     let q = equations::expansion::expand(t, &work[..v], &pk[0..32], i);
-    let z = equations::on_lines(&work[v..v + 10944], &q);
+    let z = equations::on_lines(work[v..v + 10944].as_array().unwrap(), &q);
     let a = workspace::at_alpha0();
     equations::add_column(&mut work[a..a + 476], i, z.z0);
     let b = workspace::at_alpha1();

@@ -1,11 +1,12 @@
 -- `signer::result_one` meets its contract. Assumes nothing.
-use mathlib.Core.Path.{ap, ◌∙◌}
+use mathlib.Core.Path.{◌≡◌, ap, ◌∙◌}
 use Prim.Native.Nat.{ℕ}
 use native.Mathlib.Omega.{arith}
+use Rattle.std.proofs.lemmas.Grind.{common_steps}
 use Rattle.octets.specs.Lists.{part}
 use Rattle.paper.specs.Keys.{mseed_eq_of}
 use Rattle.workspace.specs.Map.{at_vectors, at_alpha0, at_alpha1}
-use Rattle.workspace.proofs.Lent.{length-after, slice_at, lent}
+use Rattle.workspace.proofs.Lent.{length-after, slice, slice_at, lent}
 use Rattle.signer.proofs.Columns.{one-within, one-adds}
 use Rattle.signer.proofs.result_one.Goals as goal
 
@@ -32,6 +33,7 @@ returns-clause-adds c =
     let i = c.args.i in
     let w = c.args.work.now in
     let v = c.at_vectors-v in
+    let m : c.unwrap.result.now ≡ slice v.result 10944 w = grind (arith, common_steps) in
     let a = c.at_alpha0-a in
     let k = c.add_column in
     let b = c.at_alpha1-b in
@@ -39,4 +41,4 @@ returns-clause-adds c =
     let g = lent a.result at_alpha0 476 a.ensures k.new.out c.args.work.now (omega arith) k.auto.out in
     let h = lent b.result at_alpha1 476 b.ensures l.new.out _ (omega (arith, length-after g)) l.auto.out in
     one-adds i w _ _ _ _ _ _ c.requires.1 (omega arith) g h c.args.pk.now _ _ _ _ c.expand-q.ensures
-    (slice_at v.result at_vectors 10944 v.ensures w) c.on_lines-z.ensures k.ensures l.ensures
+    (m ∙ slice_at v.result at_vectors 10944 v.ensures w) c.on_lines-z.ensures k.ensures l.ensures
