@@ -1,6 +1,7 @@
 // The fields of a signature, in document 001's order. Each is handed out as that part of the caller's bytes, not as a copy; of bytes that
 // are not 3484 long the empty part is handed out. These calls give no number, write nothing and are lent no workspace. They judge nothing:
-// what they hand out of bytes that no one signed is the part of those bytes.
+// what they hand out of bytes that no one signed is the part of those bytes. Each field has its own call, as document 01 has them; what
+// the calls share are `piece` and `repetition`.
 ghost use Rattle.std.specs.Prelude.{◌≡◌, ◌+◌, ◌*◌, ◌≤◌};
 ghost use Rattle.octets.specs.Lists.{part};
 ghost use Rattle.mqom.specs.Fields.{field_of, salt_in, com1_in, com2_in, lines_in, openings_in, paths_in, hiddens_in, corrections_in, nonce_in, line_in, path_in, hidden_commitment_in, correction_in};
@@ -8,6 +9,7 @@ ghost use Rattle.mqom.specs.Fields.{field_of, salt_in, com1_in, com2_in, lines_i
 use crate::SIGNATURE;
 
 // The len bytes from at.
+#[tactic(auto, unfolding(crate::specs::Fields::field_of, octets::specs::Lists::part))]
 fn piece(sig: &[u8], at: usize, len: usize) -> &[u8]
     requires { at + len ≤ 3484 }
     ensures { result.now ≡ field_of (part at len) sig.now }
