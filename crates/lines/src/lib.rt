@@ -106,20 +106,16 @@ fn fold_leaves(tree: &Tree, leaves: &[u8; 4096], hidden: Option<usize>) -> [u8; 
 }
 
 // The lines of the folded tapes.
-fn of_folded(h: [u8; 32], f: &[u8; 504], x: &[u8]) -> Lines
+fn of_folded(hash: [u8; 32], f: &[u8; 504], x: &[u8]) -> Lines
     requires { length x.now ≡ 28 }
-    ensures { LinesOf h f.now x.now result }
+    ensures { LinesOf hash f.now x.now result }
 {
-    let a = folding::all_x(f);
-    let b = folding::all_u(f);
-    let c = folding::sum_u(f);
-    let d = folding::correction(f, x);
     Lines {
-        hash: h,
-        x0: a,
-        u0: b,
-        u1: c,
-        correction: d,
+        hash,
+        x0: folding::all_x(f),
+        u0: folding::all_u(f),
+        u1: folding::sum_u(f),
+        correction: folding::correction(f, x),
     }
 }
 
@@ -167,16 +163,14 @@ pub fn reveal(
 }
 
 // The values of the folded tapes at the point r.
-fn at_point(h: [u8; 32], f: &[u8; 504], d: &[u8], r: u8) -> Values
+fn at_point(hash: [u8; 32], f: &[u8; 504], d: &[u8], r: u8) -> Values
     requires { length d.now ≡ 12 }
-    ensures { ValuesOf h f.now d.now r result }
+    ensures { ValuesOf hash f.now d.now r result }
 {
-    let x = folding::x_at(f, d, r);
-    let u = folding::u_at(f, r);
     Values {
-        hash: h,
-        x: x,
-        u: u,
+        hash,
+        x: folding::x_at(f, d, r),
+        u: folding::u_at(f, r),
     }
 }
 
