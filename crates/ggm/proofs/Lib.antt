@@ -1,2 +1,3 @@
 pub mod HiddenLeaf
 pub mod Held
+pub mod Depths

@@ -47,6 +47,7 @@ impl Tree<'_> {
     }
 
     // Expand, below the node of layer j with seed s: its 2 ^ d leaf seeds.
+    #[tactic(auto, using(crate::proofs::Depths::depths))]
     pub fn expand(&self, buf: &mut [u8], s: Cols, d: usize, j: usize)
         requires { (length buf.old ≡ 16 * 2 ^ d) × (1 ≤ j) × (j + d ≤ 8) }
         ensures { buf.new ≡ flat (leaves_of (derive_by self.now.keys.now) d j (block_of s)) }
@@ -64,6 +65,7 @@ impl Tree<'_> {
     }
 
     // Open, below the node of layer j with seed s: the d siblings on the way to the hidden leaf, from the leaf up. Gives that leaf's seed.
+    #[tactic(auto, using(crate::proofs::Depths::depths))]
     pub fn open_path(&self, path: &mut [u8], hidden: usize, s: Cols, d: usize, j: usize) -> Cols
         requires { (length path.old ≡ 16 * d) × (hidden < 2 ^ d) × (1 ≤ j) × (j + d ≤ 8) }
         ensures siblings { path.new ≡ flat (path_of (derive_by self.now.keys.now) d j hidden (block_of s)) }
@@ -86,6 +88,7 @@ impl Tree<'_> {
     }
 
     // PartiallyExpand, below a node of layer j: the leaf seeds that the sibling path gives, zeros in the place of the hidden leaf.
+    #[tactic(auto, using(crate::proofs::Depths::depths))]
     pub fn rebuild(&self, buf: &mut [u8], hidden: usize, path: &[u8], d: usize, j: usize)
         requires { (length buf.old ≡ 16 * 2 ^ d) × (16 * d ≤ length path.now) × (hidden < 2 ^ d) × (j + d ≤ 8) }
         ensures { buf.new ≡ flat (rebuild_of (derive_by self.now.keys.now) d j hidden path.now) }

@@ -3,19 +3,9 @@ use Rattle.std.proofs.Common.{sym, ◌∙◌, arith}
 use Rattle.aes.specs.Words.{block_of}
 use Rattle.aes.proofs.Blocks.{length-block_of}
 use Rattle.octets.proofs.Place.{place-whole}
-use Rattle.tree.proofs.Powers.{pow-half, two-zero}
+use Rattle.tree.proofs.Powers.{two-zero}
 use Rattle.tree.proofs.Depth.{leaves-zero, leaves-join}
 use Rattle.ggm.proofs.Tree.+expand.Goals as goal
-
-pub expand-requires : goal.expand-requires
-expand-requires t c =
-    let p = pow-half c.args.d c.if-d-eq0.false in
-    (omega arith, (omega arith, omega arith, omega arith))
-
-pub expand-requires-else-d-eq0 : goal.expand-requires-else-d-eq0
-expand-requires-else-d-eq0 t c =
-    let p = pow-half c.args.d c.if-d-eq0.false in
-    (omega arith, (omega arith, omega arith, omega arith))
 
 pub returns-then-d-eq0 : goal.returns-then-d-eq0
 returns-then-d-eq0 t c =

@@ -4,7 +4,6 @@ use Rattle.aes.specs.Words.{block_of}
 use Rattle.aes.proofs.Blocks.{length-block_of}
 use Rattle.octets.proofs.Laid.{length-nil}
 use Rattle.octets.proofs.Place.{place-whole}
-use Rattle.tree.proofs.Powers.{pow-half}
 use Rattle.tree.proofs.Depth.{path-zero, path-join-left, path-join-right}
 use Rattle.ggm.proofs.HiddenLeaf.{leaf-zero, leaf-join-left, leaf-join-right}
 use Rattle.ggm.proofs.Tree.+open_path.Goals as goal
@@ -19,11 +18,6 @@ pub returns-then-d-eq0-clause-leaf : goal.returns-then-d-eq0-clause-leaf
 returns-then-d-eq0-clause-leaf t c =
     let a = c.args in
     leaf-zero _ a.d a.j a.hidden (block_of a.s) c.if-d-eq0.true (omega arith)
-
-pub open_path-requires-else-hidden-h : goal.open_path-requires-else-hidden-h
-open_path-requires-else-hidden-h t c =
-    let p = pow-half c.args.d c.if-d-eq0.false in
-    (omega arith, (omega arith, omega arith, omega arith, omega arith))
 
 pub returns-then-hidden-h-clause-siblings : goal.returns-then-hidden-h-clause-siblings
 returns-then-hidden-h-clause-siblings t c =

@@ -1,28 +1,8 @@
 -- `ggm::Tree::rebuild` meets its contract: one half is rebuilt, the other expanded from the path. The measure is the depth. Assumes nothing.
 use Rattle.std.proofs.Common.{◌≡◌, length, sym, ap, ◌∙◌, arith, replicate}
-use Rattle.tree.proofs.Powers.{pow-half, two-zero}
+use Rattle.tree.proofs.Powers.{two-zero}
 use Rattle.tree.proofs.Depth.{rebuild-zero, rebuild-join-left, rebuild-join-right}
 use Rattle.ggm.proofs.Tree.+rebuild.Goals as goal
-
-pub rebuild-requires : goal.rebuild-requires
-rebuild-requires t c =
-    let p = pow-half c.args.d c.if-d-eq0.false in
-    (omega arith, (omega arith, omega arith, omega arith, omega arith))
-
-pub expand-requires : goal.expand-requires
-expand-requires t c =
-    let p = pow-half c.args.d c.if-d-eq0.false in
-    (omega arith, omega arith, omega arith)
-
-pub expand-requires-else-hidden-h : goal.expand-requires-else-hidden-h
-expand-requires-else-hidden-h t c =
-    let p = pow-half c.args.d c.if-d-eq0.false in
-    (omega arith, omega arith, omega arith)
-
-pub rebuild-requires-else-hidden-h : goal.rebuild-requires-else-hidden-h
-rebuild-requires-else-hidden-h t c =
-    let p = pow-half c.args.d c.if-d-eq0.false in
-    (omega arith, (omega arith, omega arith, omega arith, omega arith))
 
 pub returns-then-d-eq0 : goal.returns-then-d-eq0
 returns-then-d-eq0 t c =
