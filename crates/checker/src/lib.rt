@@ -13,6 +13,7 @@ ghost use Rattle.workspace.specs.Map.{at_hashes, at_alpha0};
 ghost use Rattle.checker.specs.State.{rest_of, Placed, EvaluatedIn, Vectors, Recomputed, com1_of, com2_of};
 
 use aes::Tables;
+use seeds::PlainKeys;
 
 // ---- BLC.Eval (algorithm 12)
 
@@ -101,7 +102,7 @@ fn recompute_one(t: &Tables, pk: &[u8; 60], work: &mut [u8; 65536], i: usize)
     ensures adds { (x : ℕ → ℕ → ℕ) (p : ℕ → ℕ) (rest v : ℕ → ℕ → ℕ) → Vectors x p v → Recomputed pk.now x p rest v i work.old → Recomputed pk.now x p rest v (i + 1) work.new }
 {
     let v = workspace::at_vectors();
-    let q = equations::expansion::expand(t, &work[..v], &pk[0..32], i);
+    let q = equations::expansion::expand(PlainKeys::new(t, &work[..v]), &pk[0..32], i);
     let z = equations::at_points(work[v..v + 10944].as_array().unwrap(), &q, pk[32 + i]);
     let a = workspace::at_alpha0();
     equations::add_column(&mut work[a..a + 476], i, z);

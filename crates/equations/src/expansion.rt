@@ -4,10 +4,9 @@ ghost use Rattle.aes.specs.Words.{block_of};
 ghost use Rattle.paper.specs.Keys.{seed_eq, rows};
 ghost use Rattle.paper.specs.Symmetric.{prg};
 ghost use Rattle.octets.specs.Lists.{zero16};
-ghost use Rattle.seeds.specs.Expanded.{plain_keys};
 
-use aes::{Cols, Tables};
-use seeds::Purpose;
+use aes::Cols;
+use seeds::{PlainKeys, Purpose};
 
 // seed_eq[i] (line 4).
 fn seed(mseed: &[u8], i: usize) -> Cols
@@ -24,26 +23,23 @@ fn seed(mseed: &[u8], i: usize) -> Cols
 }
 
 // PRG (0, 0, s) of 1652 bytes (line 5): 103 whole blocks, and four bytes of the last.
-fn fill(t: &Tables, keys: &[u8], s: Cols) -> [u8; 1652]
-    requires { keys.now ≡ plain_keys }
+fn fill(keys: PlainKeys, s: Cols) -> [u8; 1652]
     ensures { result ≡ prg zero16 0 (block_of s) 1652 }
 {
     let mut q = [0u8; 1652];
     for i in 0..103 {
-        let y = seeds::plain_block(t, keys, s, i);
+        let y = keys.block(s, i);
         aes::store(&mut q, 16 * i, y);
     }
-    let y = seeds::plain_block(t, keys, s, 103);
+    let y = keys.block(s, 103);
     aes::store_word(&mut q, 1648, y.a);
     q
 }
 
 // Packed equation i: its rows, and then b.
-pub fn expand(t: &Tables, keys: &[u8], mseed: &[u8], i: usize) -> [u8; 1652]
-    requires keys_value { keys.now ≡ plain_keys }
-    requires mseed_len { (length mseed.now ≡ 32) × (i < 28) }
+pub fn expand(keys: PlainKeys, mseed: &[u8], i: usize) -> [u8; 1652]
+    requires { (length mseed.now ≡ 32) × (i < 28) }
     ensures { result ≡ rows mseed.now i }
 {
-    let s = seed(mseed, i);
-    fill(t, keys, s)
+    fill(keys, seed(mseed, i))
 }

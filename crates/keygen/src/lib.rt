@@ -5,11 +5,10 @@ ghost use Rattle.std.specs.Prelude.{◌≡◌, ◌++◌, ℕ, ◌<◌, length};
 ghost use Rattle.octets.specs.Lists.{part};
 ghost use Rattle.algebra.specs.Line.{form, equation_in};
 ghost use Rattle.equations.specs.Put.{Monomials};
-ghost use Rattle.seeds.specs.Expanded.{plain_keys};
 ghost use Rattle.paper.specs.Keys.{drawn, rows, values_at, key_gen};
 
 use aes::Tables;
-use seeds::Purpose;
+use seeds::{PlainKeys, Purpose};
 
 // x and mseed_eq, laid end to end (line 2).
 fn draw(seed: &[u8]) -> [u8; 60]
@@ -21,33 +20,33 @@ fn draw(seed: &[u8]) -> [u8; 60]
 }
 
 // The value of packed equation i at the solution whose monomials are w (line 5).
-fn value_at(t: &Tables, keys: &[u8], mseed: &[u8], w: &[u8; 1652], i: usize) -> u8
-    requires { (keys.now ≡ plain_keys) × (length mseed.now ≡ 32) × (i < 28) }
+fn value_at(keys: PlainKeys, mseed: &[u8], w: &[u8; 1652], i: usize) -> u8
+    requires { (length mseed.now ≡ 32) × (i < 28) }
     ensures { (x : ℕ → ℕ) → Monomials x w.now → result ≡ form 56 (equation_in 56 (rows mseed.now i) 0 0) x }
 {
-    let q = equations::expansion::expand(t, keys, mseed, i);
+    let q = equations::expansion::expand(keys, mseed, i);
     equations::value(&q, w)
 }
 
 // All values, for k that holds x and mseed_eq.
-fn put_values(t: &Tables, keys: &[u8], k: &[u8; 60], y: &mut [u8])
-    requires { (keys.now ≡ plain_keys) × (length y.old ≡ 28) }
+fn put_values(keys: PlainKeys, k: &[u8; 60], y: &mut [u8])
+    requires { length y.old ≡ 28 }
     ensures { y.new ≡ values_at (part 28 32 k.now) (part 0 28 k.now) }
 {
     let w = equations::monomials(&k[..28]);
     for (i, v) in y.iter_mut().enumerate() {
-        *v = value_at(t, keys, &k[28..60], &w, i);
+        *v = value_at(keys, &k[28..60], &w, i);
     }
 }
 
 // pk: mseed_eq, and the values (line 7).
-fn put_public(t: &Tables, keys: &[u8], k: &[u8; 60], pk: &mut [u8])
-    requires { (keys.now ≡ plain_keys) × (length pk.old ≡ 60) }
+fn put_public(keys: PlainKeys, k: &[u8; 60], pk: &mut [u8])
+    requires { length pk.old ≡ 60 }
     ensures { pk.new ≡ part 28 32 k.now ++ values_at (part 28 32 k.now) (part 0 28 k.now) }
 {
     let (m, y) = pk.split_at_mut(32);
     m.copy_from_slice(&k[28..60]);
-    put_values(t, keys, k, y);
+    put_values(keys, k, y);
 }
 
 // sk: pk, and x (line 8).
@@ -70,6 +69,6 @@ pub fn make_keys(seed: &[u8], pk: &mut [u8], sk: &mut [u8], work: &mut [u8])
     let t = Tables::new(&mut words);
     seeds::plain_keys(&t, &mut work[0..18304]);
     let k = draw(seed);
-    put_public(&t, &work[0..18304], &k, pk);
+    put_public(PlainKeys::new(&t, &work[0..18304]), &k, pk);
     put_secret(pk, &k, sk);
 }

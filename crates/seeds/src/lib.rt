@@ -133,7 +133,7 @@ fn put_key(t: &Tables, salt: Cols, purpose: Purpose, e: usize, j: usize, k: usiz
     out[p..p + 176].copy_from_slice(&w);
 }
 
-// The keys of PRG for salt 0 and e 0.
+// out becomes the keys of PRG for salt 0 and e 0.
 pub fn plain_keys(t: &Tables, out: &mut [u8])
     requires { length out.old ≡ 18304 }
     ensures { out.new ≡ plain_keys }
@@ -144,12 +144,31 @@ pub fn plain_keys(t: &Tables, out: &mut [u8])
     }
 }
 
-// Block i of PRG for salt 0 and e 0.
-pub fn plain_block(t: &Tables, keys: &[u8], s: Cols, i: usize) -> Cols
-    requires { (keys.now ≡ plain_keys) × (i < 104) }
-    ensures { block_of result ≡ prg_block zero16 0 (block_of s) i }
-{
-    derive_at(t, keys, i, s)
+// The keys of PRG for salt 0 and e 0, where they lie, and the tables.
+#[derive(Clone, Copy)]
+pub struct PlainKeys<'t, 'k> {
+    tables: Tables<'t>,
+    keys: &'k [u8],
+    ghost plain: { keys.now ≡ plain_keys },
+}
+
+impl<'t, 'k> PlainKeys<'t, 'k> {
+    // Those that `plain_keys` has left.
+    pub fn new(t: &Tables<'t>, keys: &'k [u8]) -> PlainKeys<'t, 'k>
+        requires { keys.now ≡ plain_keys }
+    {
+        PlainKeys { tables: *t, keys }
+    }
+}
+
+impl PlainKeys<'_, '_> {
+    // Block i of PRG for salt 0 and e 0.
+    pub fn block(&self, s: Cols, i: usize) -> Cols
+        requires { i < 104 }
+        ensures { block_of result ≡ prg_block zero16 0 (block_of s) i }
+    {
+        derive_at(&self.tables, self.keys, i, s)
+    }
 }
 
 // Key k of tree e into its place.

@@ -15,6 +15,7 @@ ghost use Rattle.signer.specs.Written.{Openable, opening_at, openings, signature
 
 use aes::{Cols, Tables};
 use lines::Lines;
+use seeds::PlainKeys;
 
 // Why there is no signature: the solution does not satisfy the equations, or no nonce was found.
 #[derive(Clone, Copy, Debug, PartialEq, Eq)]
@@ -44,7 +45,7 @@ fn put_root(t: &Tables, work: &mut [u8; 65536], m: Cols, e: usize)
     ensures { work.new ≡ place (at_roots + 16 * e) (rseed (block_of m) e) work.old }
 {
     let v = workspace::at_vectors();
-    let r = seeds::plain_block(t, &work[..v], m, e);
+    let r = PlainKeys::new(t, &work[..v]).block(m, e);
     aes::store(work, workspace::ROOTS + 16 * e, r);
 }
 
@@ -110,7 +111,7 @@ fn result_one(t: &Tables, pk: &[u8; 60], work: &mut [u8; 65536], i: usize) -> u8
     ensures adds { Adds pk.now i work.old result work.new }
 {
     let v = workspace::at_vectors();
-    let q = equations::expansion::expand(t, &work[..v], &pk[0..32], i);
+    let q = equations::expansion::expand(PlainKeys::new(t, &work[..v]), &pk[0..32], i);
     let z = equations::on_lines(work[v..v + 10944].as_array().unwrap(), &q);
     let a = workspace::at_alpha0();
     equations::add_column(&mut work[a..a + 476], i, z.z0);

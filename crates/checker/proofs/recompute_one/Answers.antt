@@ -10,9 +10,9 @@ use Rattle.workspace.proofs.Lent.{slice, slice_at, lent}
 use Rattle.checker.proofs.Lent.{recomputed-keys, recomputed-one}
 use Rattle.checker.proofs.recompute_one.Goals as goal
 
-pub expand-q-requires-clause-keys_value : goal.expand-q-requires-clause-keys_value
+pub new-requires : goal.new-requires
 unfolding part
-expand-q-requires-clause-keys_value c =
+new-requires c =
     let b = c.at_vectors-v in
     ap (λ (k : ℕ). part 0 k c.args.work.now) b.ensures ∙ c.requires.keys
 

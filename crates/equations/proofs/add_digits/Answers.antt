@@ -18,8 +18,7 @@ loop-l-init t c = (c.loop-b.invariant.0, λ f h. put-start _ _ _)
 
 pub loop-l-preserved : goal.loop-l-preserved
 loop-l-preserved t c =
-    let l = c.loop-l in
-    (
+    let l = c.loop-l in (
       simp length-set l.invariant.0,
       λ f h.
           put-add _ _ _ l.l l.z (l.invariant.1 f h) (λ k hk e. omega arith) _ (omega arith)
@@ -30,8 +29,7 @@ pub loop-b-preserved : goal.loop-b-preserved
 loop-b-preserved t c =
     let b = c.loop-b in
     let l = c.loop-l in
-    let s = c.args in
-    (
+    let s = c.args in (
       l.invariant.0,
       powers-turn s.t b.x c.root.new.x b.b b.invariant.1 c.root.ensures,
       λ f h.

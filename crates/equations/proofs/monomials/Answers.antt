@@ -14,7 +14,7 @@ pub loop-j-init : goal.loop-j-init
 loop-j-init c = (
   search rules,
   filled-start (vec c.all_lifted-u.result) (replicate 1652 0) _
-  (put-part 1596 56 _ _ _ (search rules) (search rules) (λ k h. ap (λ (s : List ℕ). vec s k) c.copy_from_slice.ensures.after)),
+      (put-part 1596 56 _ _ _ (search rules) (search rules) (λ k h. ap (λ (s : List ℕ). vec s k) c.copy_from_slice.ensures.after)),
 )
 
 pub loop-j-preserved : goal.loop-j-preserved

@@ -10,10 +10,10 @@ use Rattle.paper.specs.Keys.{values_at, key_gen}
 use borrow.Author.Rules.{rules}
 use Rattle.keygen.proofs.make_keys.Goals as goal
 
-pub put_public-requires : goal.put_public-requires
-put_public-requires c =
+pub new-requires : goal.new-requires
+new-requires c =
     let e = c.plain_keys.ensures in
-    (take_at _ _ 18304 (ap length e ∙ length-plain_keys) ∙ e, search rules)
+    take_at _ _ 18304 (ap length e ∙ length-plain_keys) ∙ e
 
 pub returns-clause-public : goal.returns-clause-public
 unfolding key_gen

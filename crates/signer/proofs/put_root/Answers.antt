@@ -10,13 +10,13 @@ use Rattle.aes.proofs.Blocks.{length-block_of}
 use Rattle.signer.proofs.Roots.{rseed-block}
 use Rattle.signer.proofs.put_root.Goals as goal
 
-pub plain_block-r-requires : goal.plain_block-r-requires
+pub new-requires : goal.new-requires
 unfolding part
-plain_block-r-requires c = (ap (λ (k : ℕ). part 0 k c.args.work.now) c.at_vectors-v.ensures ∙ c.requires.0, omega arith)
+new-requires c = ap (λ (k : ℕ). part 0 k c.args.work.now) c.at_vectors-v.ensures ∙ c.requires.0
 
 pub returns : goal.returns
 returns c =
     let a = c.args in
     c.store.ensures
     ∙ ap (λ (l : List ℕ). place (43360 + 16 * a.e) l a.work.now)
-    (c.plain_block-r.ensures ∙ rseed-block (block_of a.m) (length-block_of a.m) a.e c.requires.1)
+    (c.block-r.ensures ∙ rseed-block (block_of a.m) (length-block_of a.m) a.e c.requires.1)

@@ -10,9 +10,9 @@ use Rattle.workspace.proofs.Lent.{length-after, slice, slice_at, lent}
 use Rattle.signer.proofs.Columns.{one-within, one-adds}
 use Rattle.signer.proofs.result_one.Goals as goal
 
-pub expand-q-requires-clause-keys_value : goal.expand-q-requires-clause-keys_value
+pub new-requires : goal.new-requires
 unfolding part
-expand-q-requires-clause-keys_value c = let w = c.args.work.now in ap (λ (k : ℕ). part 0 k w) c.at_vectors-v.ensures ∙ c.requires.0
+new-requires c = let w = c.args.work.now in ap (λ (k : ℕ). part 0 k w) c.at_vectors-v.ensures ∙ c.requires.0
 
 pub returns-clause-rest : goal.returns-clause-rest
 unfolding part mseed_eq_of

@@ -9,4 +9,4 @@ use Rattle.equations.proofs.expansion.expand.Goals as goal
 
 pub returns : goal.returns
 unfolding rows
-returns c = c.fill.ensures ∙ ap (λ (s : List ℕ). prg zero16 0 s 1652) c.seed-s.ensures
+returns c = c.fill.ensures ∙ ap (λ (s : List ℕ). prg zero16 0 s 1652) c.seed.ensures

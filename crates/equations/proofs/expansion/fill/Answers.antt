@@ -18,7 +18,7 @@ pub loop-i-preserved : goal.loop-i-preserved
 loop-i-preserved c =
     let l = c.loop-i in
     let s = c.args.s in
-    let y = c.plain_block-y in
+    let y = c.block-y in
     let e = c.store.ensures in (
       ap length e ∙ length-place _ _ _ ∙ l.invariant.0,
       blocks-turn (block_of s) (length-block_of s) l.q (block_of y.result) l.i (omega arith) l.invariant.0 l.invariant.1 y.ensures e,
@@ -28,6 +28,6 @@ pub returns : goal.returns
 returns c =
     let l = c.loop-i in
     let s = c.args.s in
-    let y = c.plain_block-y-2 in
+    let y = c.block-y-2 in
     blocks_end (block_of s) (length-block_of s) l.q (block_of y.result) (bytes_of 4 y.result.a) l.i (omega arith) l.invariant.0 l.invariant.1
     y.ensures (first_word y.result) (length-bytes_of 4 y.result.a) c.store_word.ensures

@@ -1,4 +1,4 @@
--- `seeds::plain_block` meets its contract. Assumes nothing.
+-- `seeds::PlainKeys::block` meets its contract. Assumes nothing.
 use mathlib.Core.Path.{◌≡◌, ap, ◌∙◌}
 use mathlib.Core.List.{List}
 use Prim.Native.Nat.{ℕ}
@@ -8,13 +8,16 @@ use Rattle.aes.specs.Words.{block_of}
 use Rattle.seeds.specs.Expanded.{derive_with, key_at}
 use Rattle.seeds.proofs.Keys.{length-plain_keys}
 use Rattle.seeds.proofs.Routines.{plain-block}
-use Rattle.seeds.proofs.plain_block.Goals as goal
+use Rattle.seeds.proofs.PlainKeys.block.Goals as goal
 
 pub derive_at-requires : goal.derive_at-requires
 derive_at-requires c =
-    let k = c.requires.0 in
-    let l : length c.args.keys.now ≡ 18304 = ap length k ∙ length-plain_keys in
+    let self = c.args.self.now in
+    let l : length self.keys.now ≡ 18304 = ap length self.plain ∙ length-plain_keys in
     omega arith
 
 pub returns : goal.returns
-returns c = c.derive_at.ensures ∙ ap (λ (l : List ℕ). derive_with (key_at l c.args.i) (block_of c.args.s)) c.requires.0 ∙ plain-block (block_of c.args.s) c.args.i c.requires.1
+returns c =
+    let self = c.args.self.now in
+    let s = block_of c.args.s in
+    c.derive_at.ensures ∙ ap (λ (l : List ℕ). derive_with (key_at l c.args.i) s) self.plain ∙ plain-block s c.args.i c.requires
