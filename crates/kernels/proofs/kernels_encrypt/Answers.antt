@@ -10,5 +10,5 @@ returns c =
     let key = c.args.key.now in
     let buf = c.args.buf.now in
     let done : c.each_block.new.buf ≡ each_block (expand_key key) buf =
-        c.each_block.ensures ∙ ap (λ (w : List ℕ). each_block w buf) (c.expand-w.ensures ∙ ap expand_key (c.load.ensures ∙ part-all 16 key (omega arith))) in
+    c.each_block.ensures ∙ ap (λ (w : List ℕ). each_block w buf) (c.expand-w.ensures ∙ ap expand_key (c.load.ensures ∙ part-all 16 key (omega arith))) in
     record { number = search rules; output = rw (eq-eqb (length key) 16 (omega arith), eq-eqb (length buf % 16) 0 (omega arith)) done }
