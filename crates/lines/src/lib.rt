@@ -106,8 +106,7 @@ fn fold_leaves(tree: &Tree, leaves: &[u8; 4096], hidden: Option<usize>) -> [u8; 
 }
 
 // The lines of the folded tapes.
-fn of_folded(hash: [u8; 32], f: &[u8; 504], x: &[u8]) -> Lines
-    requires { length x.now ≡ 28 }
+fn of_folded(hash: [u8; 32], f: &[u8; 504], x: &[u8; 28]) -> Lines
     ensures { LinesOf hash f.now x.now result }
 {
     Lines {
@@ -120,8 +119,8 @@ fn of_folded(hash: [u8; 32], f: &[u8; 504], x: &[u8]) -> Lines
 }
 
 // BLC.Commit (10), lines 4 to 15, of the repetition e with root seed r and the solution x.
-pub fn commit(t: &Tables, salt: Cols, e: usize, r: Cols, x: &[u8], room: &mut [u8]) -> Lines
-    requires { (e < 17) × (length x.now ≡ 28) × (length room.old ≡ 12289) }
+pub fn commit(t: &Tables, salt: Cols, e: usize, r: Cols, x: &[u8; 28], room: &mut [u8]) -> Lines
+    requires { (e < 17) × (length room.old ≡ 12289) }
     ensures { (mseed : List ℕ) → block_of r ≡ rseed mseed e → Committed mseed (block_of salt) x.now e result }
 {
     let keys = seeds::tree_keys(t, salt, e);
@@ -145,11 +144,11 @@ pub fn reveal(
     salt: Cols,
     e: usize,
     r: Cols,
-    x: &[u8],
+    x: &[u8; 28],
     hidden: usize,
     path: &mut [u8],
 ) -> [u8; 32]
-    requires { (e < 17) × (length x.now ≡ 28) × (hidden < 256) × (length path.old ≡ 128) }
+    requires { (e < 17) × (hidden < 256) × (length path.old ≡ 128) }
     ensures { (mseed : List ℕ) → block_of r ≡ rseed mseed e → Revealed mseed (block_of salt) x.now e hidden path.new result }
 {
     let keys = seeds::tree_keys(t, salt, e);

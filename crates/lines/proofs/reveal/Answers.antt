@@ -1,4 +1,5 @@
 -- `lines::reveal` meets its contract. Assumes nothing.
+use Rattle.std.proofs.Common.{arith}
 use Rattle.aes.specs.Words.{block_of}
 use Rattle.aes.proofs.Blocks.{length-block_of}
 use Rattle.lines.proofs.Signer.{revealed}
@@ -9,5 +10,5 @@ returns c =
     let a = c.args in
     let k = c.tree_keys-keys in
     let o = c.open_tree-s in
-    λ mseed from. revealed mseed (block_of a.salt) a.x.now a.e k.result k.ensures (block_of a.r) _ (length-block_of a.r) c.requires.1 from c.load-d.ensures
+    λ mseed from. revealed mseed (block_of a.salt) a.x.now a.e k.result k.ensures (block_of a.r) _ (length-block_of a.r) (omega arith) from c.load-d.ensures
     a.hidden _ (block_of o.result) _ o.ensures.siblings o.ensures.leaf c.commitment.ensures
