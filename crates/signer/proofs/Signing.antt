@@ -31,7 +31,7 @@ use Rattle.signer.proofs.Openings.{signature-whole}
 
 -- ---- the signature from its parts: the head stands in s1, the nonce's room p came back as n, and the openings were written behind
 
-pub signature-written : (m salt x c1 c2 a1 h b c s s1 p n s2 s3 nonce : List ℕ) → length salt ≡ 16 → length c1 ≡ 32 → length c2 ≡ 32 → length a1 ≡ 476
+pub signature-written : (m salt x c1 c2 a1 h c s s1 p n s2 s3 nonce : List ℕ) → length salt ≡ 16 → length c1 ≡ 32 → length c2 ≡ 32 → length a1 ≡ 476
     → length nonce ≡ 4
     → length s ≡ 3484
     → length m ≡ 16
@@ -40,13 +40,12 @@ pub signature-written : (m salt x c1 c2 a1 h b c s s1 p n s2 s3 nonce : List ℕ
     → Lent 3480 4 s1 p n s2
     → n ≡ nonce
     → c ≡ challenge h (part 3480 4 s2)
-    → b ≡ salt
-    → s3 ≡ openings m b x (hidden_in c) 17 s2
+    → s3 ≡ openings m salt x (hidden_in c) 17 s2
     → s3 ≡ signature_of m salt x c1 c2 a1 (challenge h nonce) nonce
 unfolding signature_of
-signature-written m salt x c1 c2 a1 h b c s s1 p n s2 s3 nonce ls l1 l2 la ln l lm lx e1 k en ec eb e3 =
+signature-written m salt x c1 c2 a1 h c s s1 p n s2 s3 nonce ls l1 l2 la ln l lm lx e1 k en ec e3 =
     e3
-    ∙ ap₂ (λ (t : List ℕ) (u : List ℕ). openings m t x (hidden_in u) 17 s2) eb sampled
+    ∙ ap (λ (u : List ℕ). openings m salt x (hidden_in u) 17 s2) sampled
     ∙ ap (openings m salt x (hidden_in (challenge h nonce)) 17) placed
     ∙ signature-whole m salt x (hidden_in (challenge h nonce)) lm lx (hidden-lt h nonce) c1 c2 a1 nonce s ls l1 l2 la ln l
   where

@@ -24,17 +24,45 @@ pub enum Refused {
     Spent,
 }
 
-// Both parts of a secret key: the public key, and the solution.
-fn public(sk: &[u8; 88]) -> &[u8; 60]
-    ensures { result.now ≡ public_of sk.now }
-{
-    sk[0..60].as_array().unwrap()
+// What each step of signing reads: the tables of the cipher, the secret key, the salt.
+#[derive(Drop)]
+struct Signer<'t, 'k> {
+    tables: Tables<'t>,
+    sk: &'k [u8; 88],
+    salt: [u8; 16],
+    ghost sk_len: { length sk.now ≡ 88 },
+    ghost salt_len: { length salt ≡ 16 },
 }
 
-fn solution(sk: &[u8; 88]) -> &[u8; 28]
-    ensures { result.now ≡ solution_of sk.now }
-{
-    sk[60..88].as_array().unwrap()
+// Both commitments, and the Fiat-Shamir hash of them.
+#[derive(Drop)]
+struct Challenge {
+    com1: [u8; 32],
+    com2: [u8; 32],
+    hash: [u8; 32],
+}
+
+impl Signer<'_, '_> {
+    // Both parts of the secret key: the public key, and the solution.
+    fn public(&self) -> &[u8; 60]
+        ensures { result.now ≡ public_of self.now.sk.now }
+    {
+        let sk = self.sk;
+        sk[0..60].as_array().unwrap()
+    }
+
+    fn solution(&self) -> &[u8; 28]
+        ensures { result.now ≡ solution_of self.now.sk.now }
+    {
+        let sk = self.sk;
+        sk[60..88].as_array().unwrap()
+    }
+
+    fn salt_block(&self) -> Cols
+        ensures { block_of result ≡ self.now.salt }
+    {
+        aes::load(&self.salt, 0)
+    }
 }
 
 // ---- BLC.Commit (algorithm 10)
@@ -70,36 +98,42 @@ fn keep_lines(work: &mut [u8; 65536], e: usize, l: Lines)
     octets::put(&l.correction, work, workspace::SENT + 12 * e);
 }
 
-fn commit_one(t: &Tables, x: &[u8; 28], salt: Cols, work: &mut [u8; 65536], e: usize)
-    requires { e < 17 }
-    ensures keys { Within 18304 25049 work.old work.new }
-    ensures adds { (m : List ℕ) → Committed m (block_of salt) x.now e work.old → Committed m (block_of salt) x.now (e + 1) work.new }
-{
-    let r = aes::load(work, workspace::ROOTS + 16 * e);
-    let a = workspace::at_tree();
-    let l = lines::commit(t, salt, e, r, x, &mut work[a..a + 12289]);
-    let v = workspace::at_vectors();
-    equations::put_lane(&mut work[v..v + 10944], e, l.x0);
-    keep_lines(work, e, l);
-}
-
-fn commit_all(t: &Tables, x: &[u8; 28], salt: Cols, work: &mut [u8; 65536])
-    ensures keys { Within 18304 25049 work.old work.new }
-    ensures adds { (m : List ℕ) → Committed m (block_of salt) x.now 0 work.old → Committed m (block_of salt) x.now 17 work.new }
-{
-    for e in 0..17 {
-        commit_one(t, x, salt, work, e);
+impl Signer<'_, '_> {
+    fn commit_one(&self, work: &mut [u8; 65536], e: usize)
+        requires { e < 17 }
+        ensures keys { Within 18304 25049 work.old work.new }
+        ensures adds { (m : List ℕ) → Committed m self.now.salt (solution_of self.now.sk.now) e work.old
+            → Committed m self.now.salt (solution_of self.now.sk.now) (e + 1) work.new }
+    {
+        let r = aes::load(work, workspace::ROOTS + 16 * e);
+        let a = workspace::at_tree();
+        let s = self.salt_block();
+        let x = self.solution();
+        let l = lines::commit(&self.tables, s, e, r, x, &mut work[a..a + 12289]);
+        let v = workspace::at_vectors();
+        equations::put_lane(&mut work[v..v + 10944], e, l.x0);
+        keep_lines(work, e, l);
     }
-}
 
-fn commit(t: &Tables, x: &[u8; 28], salt: &[u8; 16], mseed: &[u8; 16], work: &mut [u8; 65536])
-    ensures keys { part 0 18304 work.new ≡ plain_keys }
-    ensures adds { Committed mseed.now salt.now x.now 17 work.new }
-{
-    let v = workspace::at_vectors();
-    seeds::plain_keys(t, &mut work[..v]);
-    put_roots(t, work, aes::load(mseed, 0));
-    commit_all(t, x, aes::load(salt, 0), work);
+    fn commit_all(&self, work: &mut [u8; 65536])
+        ensures keys { Within 18304 25049 work.old work.new }
+        ensures adds { (m : List ℕ) → Committed m self.now.salt (solution_of self.now.sk.now) 0 work.old
+            → Committed m self.now.salt (solution_of self.now.sk.now) 17 work.new }
+    {
+        for e in 0..17 {
+            self.commit_one(work, e);
+        }
+    }
+
+    fn commit(&self, mseed: &[u8; 16], work: &mut [u8; 65536])
+        ensures keys { part 0 18304 work.new ≡ plain_keys }
+        ensures adds { Committed mseed.now self.now.salt (solution_of self.now.sk.now) 17 work.new }
+    {
+        let v = workspace::at_vectors();
+        seeds::plain_keys(&self.tables, &mut work[..v]);
+        put_roots(&self.tables, work, aes::load(mseed, 0));
+        self.commit_all(work);
+    }
 }
 
 // ---- ComputePAlpha (algorithm 6), and whether the solution satisfies the equations
@@ -132,127 +166,99 @@ fn results(t: &Tables, pk: &[u8; 60], work: &mut [u8; 65536]) -> bool
     d == 0
 }
 
-// The lines and the solution as vectors, and their result lines.
-fn alphas(t: &Tables, sk: &[u8; 88], work: &mut [u8; 65536]) -> bool
-    requires { part 0 18304 work.old ≡ plain_keys }
-    ensures { (salt m : List ℕ) → Committed m salt (solution_of sk.now) 17 work.old → Prepared sk.now salt m result work.new }
-{
-    let v = workspace::at_vectors();
-    equations::put_solution(solution(sk), &mut work[v..v + 10944]);
-    equations::spread(&mut work[v..v + 10944]);
-    results(t, public(sk), work)
-}
+impl Signer<'_, '_> {
+    // The lines and the solution as vectors, and their result lines.
+    fn alphas(&self, work: &mut [u8; 65536]) -> bool
+        requires { part 0 18304 work.old ≡ plain_keys }
+        ensures { (m : List ℕ) → Committed m self.now.salt (solution_of self.now.sk.now) 17 work.old
+            → Prepared self.now.sk.now self.now.salt m result work.new }
+    {
+        let v = workspace::at_vectors();
+        equations::put_solution(self.solution(), &mut work[v..v + 10944]);
+        equations::spread(&mut work[v..v + 10944]);
+        results(&self.tables, self.public(), work)
+    }
 
-// Whether the solution satisfies the equations: a bool, since of the refusals only one can come of this.
-fn prepare(
-    t: &Tables,
-    sk: &[u8; 88],
-    salt: &[u8; 16],
-    mseed: &[u8; 16],
-    work: &mut [u8; 65536],
-) -> bool
-    ensures { Prepared sk.now salt.now mseed.now result work.new }
-{
-    commit(t, solution(sk), salt, mseed, work);
-    alphas(t, sk, work)
+    // Whether the solution satisfies the equations: a bool, since of the refusals only one can come of this.
+    fn prepare(&self, mseed: &[u8; 16], work: &mut [u8; 65536]) -> bool
+        ensures { Prepared self.now.sk.now self.now.salt mseed.now result work.new }
+    {
+        self.commit(mseed, work);
+        self.alphas(work)
+    }
 }
 
 // ---- the signature
 
-// The opening of repetition e, field by field, each in the middle of the signature (algorithm 11).
-fn write_opening(
-    t: &Tables,
-    x: &[u8; 28],
-    salt: Cols,
-    hidden: usize,
-    work: &[u8; 65536],
-    sig: &mut [u8; 3484],
-    e: usize,
-)
-    requires { (hidden < 256) × (e < 17) }
-    ensures { (m : List ℕ) → Openable m (block_of salt) x.now work.now → sig.new ≡ opening_at m (block_of salt) x.now (λ k. hidden) e sig.old }
-{
-    let root = aes::load(work, workspace::ROOTS + 16 * e);
-    let p = 556 + 128 * e;
-    let c = lines::reveal(t, salt, e, root, x, hidden, &mut sig[p..p + 128]);
-    octets::put(&c, sig, 2732 + 32 * e);
-    let f = workspace::SENT + 12 * e;
-    octets::put(&work[f..f + 12], sig, 3276 + 12 * e);
-}
-
-fn write_openings(
-    t: &Tables,
-    x: &[u8; 28],
-    salt: Cols,
-    c: &[u8; 19],
-    work: &[u8; 65536],
-    sig: &mut [u8; 3484],
-)
-    ensures { (m : List ℕ) → Openable m (block_of salt) x.now work.now → sig.new ≡ openings m (block_of salt) x.now (hidden_in c.now) 17 sig.old }
-{
-    for e in 0..17 {
-        write_opening(t, x, salt, c[e] as usize, work, sig, e);
+impl Signer<'_, '_> {
+    // The opening of repetition e, field by field, each in the middle of the signature (algorithm 11).
+    fn write_opening(&self, hidden: usize, work: &[u8; 65536], sig: &mut [u8; 3484], e: usize)
+        requires { (hidden < 256) × (e < 17) }
+        ensures { (m : List ℕ) → Openable m self.now.salt (solution_of self.now.sk.now) work.now
+            → sig.new ≡ opening_at m self.now.salt (solution_of self.now.sk.now) (λ k. hidden) e sig.old }
+    {
+        let root = aes::load(work, workspace::ROOTS + 16 * e);
+        let p = 556 + 128 * e;
+        let s = self.salt_block();
+        let x = self.solution();
+        let c = lines::reveal(&self.tables, s, e, root, x, hidden, &mut sig[p..p + 128]);
+        octets::put(&c, sig, 2732 + 32 * e);
+        let f = workspace::SENT + 12 * e;
+        octets::put(&work[f..f + 12], sig, 3276 + 12 * e);
     }
-}
 
-// Salt, com_1, com_2, alpha_1.
-fn write_head(
-    salt: &[u8; 16],
-    com1: &[u8; 32],
-    com2: &[u8; 32],
-    work: &[u8; 65536],
-    sig: &mut [u8; 3484],
-)
-    ensures { sig.new ≡ place 0 (salt.now ++ (com1.now ++ (com2.now ++ part at_alpha1 476 work.now))) sig.old }
-{
-    octets::put(salt, sig, 0);
-    octets::put(com1, sig, 16);
-    octets::put(com2, sig, 48);
-    let a = workspace::at_alpha1();
-    octets::put(&work[a..a + 476], sig, 80);
-}
-
-// The whole signature, with the nonce that was found.
-fn write_signature(
-    t: &Tables,
-    sk: &[u8; 88],
-    salt: &[u8; 16],
-    com1: &[u8; 32],
-    com2: &[u8; 32],
-    hash: &[u8; 32],
-    nonce: u32,
-    work: &[u8; 65536],
-    sig: &mut [u8; 3484],
-)
-    ensures { (m : List ℕ) → Openable m salt.now (solution_of sk.now) work.now → sig.new ≡ signature_of m salt.now (solution_of sk.now) com1.now com2.now (part at_alpha1 476 work.now) (challenge hash.now (bytes_of 4 nonce)) (bytes_of 4 nonce) }
-{
-    write_head(salt, com1, com2, work, sig);
-    transcript::put_nonce(nonce, &mut sig[3480..3484]);
-    let c = transcript::sample(hash, &sig[3480..3484]);
-    write_openings(t, solution(sk), aes::load(salt, 0), &c, work, sig);
-}
-
-// The challenge, and the signature where a nonce is found.
-fn answer(
-    t: &Tables,
-    sk: &[u8; 88],
-    msg: &[u8],
-    salt: &[u8; 16],
-    tries: u32,
-    sig: &mut [u8; 3484],
-    work: &mut [u8; 65536],
-) -> Result<(), Refused>
-    ensures { (m : List ℕ) (ok : Bool) → length m ≡ 16 → Prepared sk.now salt.now m ok work.old → Answers sk.now msg.now salt.now m tries sig.old (number_of result) sig.new }
-{
-    let a = workspace::first_commitment(work);
-    let b = workspace::second_commitment(work);
-    let hash = transcript::fiat_shamir(public(sk), &a, &b, msg);
-    match transcript::first_nonce(&hash, tries) {
-        Some(nonce) => {
-            write_signature(t, sk, salt, &a, &b, &hash, nonce, work, sig);
-            Ok(())
+    fn write_openings(&self, c: &[u8; 19], work: &[u8; 65536], sig: &mut [u8; 3484])
+        ensures { (m : List ℕ) → Openable m self.now.salt (solution_of self.now.sk.now) work.now
+            → sig.new ≡ openings m self.now.salt (solution_of self.now.sk.now) (hidden_in c.now) 17 sig.old }
+    {
+        for e in 0..17 {
+            self.write_opening(c[e] as usize, work, sig, e);
         }
-        None => Err(Refused::Spent),
+    }
+
+    // Salt, com_1, com_2, alpha_1.
+    fn write_head(&self, h: &Challenge, work: &[u8; 65536], sig: &mut [u8; 3484])
+        ensures { sig.new ≡ place 0 (self.now.salt ++ (h.now.com1 ++ (h.now.com2 ++ part at_alpha1 476 work.now))) sig.old }
+    {
+        octets::put(&self.salt, sig, 0);
+        octets::put(&h.com1, sig, 16);
+        octets::put(&h.com2, sig, 48);
+        let a = workspace::at_alpha1();
+        octets::put(&work[a..a + 476], sig, 80);
+    }
+
+    // The whole signature, with the nonce that was found.
+    fn write_signature(&self, h: &Challenge, nonce: u32, work: &[u8; 65536], sig: &mut [u8; 3484])
+        ensures { (m : List ℕ) → Openable m self.now.salt (solution_of self.now.sk.now) work.now
+            → sig.new ≡ signature_of m self.now.salt (solution_of self.now.sk.now) h.now.com1 h.now.com2 (part at_alpha1 476 work.now) (challenge h.now.hash (bytes_of 4 nonce)) (bytes_of 4 nonce) }
+    {
+        self.write_head(h, work, sig);
+        transcript::put_nonce(nonce, &mut sig[3480..3484]);
+        let c = transcript::sample(&h.hash, &sig[3480..3484]);
+        self.write_openings(&c, work, sig);
+    }
+
+    // The challenge, and the signature where a nonce is found.
+    fn answer(
+        &self,
+        msg: &[u8],
+        tries: u32,
+        sig: &mut [u8; 3484],
+        work: &mut [u8; 65536],
+    ) -> Result<(), Refused>
+        ensures { (m : List ℕ) (ok : Bool) → length m ≡ 16 → Prepared self.now.sk.now self.now.salt m ok work.old
+            → Answers self.now.sk.now msg.now self.now.salt m tries sig.old (number_of result) sig.new }
+    {
+        let com1 = workspace::first_commitment(work);
+        let com2 = workspace::second_commitment(work);
+        let hash = transcript::fiat_shamir(self.public(), &com1, &com2, msg);
+        match transcript::first_nonce(&hash, tries) {
+            Some(nonce) => {
+                self.write_signature(&Challenge { com1, com2, hash }, nonce, work, sig);
+                Ok(())
+            }
+            None => Err(Refused::Spent),
+        }
     }
 }
 
@@ -269,9 +275,14 @@ pub fn sign(
     ensures { Signed sk.now msg.now salt.now mseed.now tries sig.old (number_of result) sig.new }
 {
     let mut words = [0u32; 1024];
-    let t = Tables::new(&mut words);
-    if !prepare(&t, sk, salt, mseed, work) {
+    let tables = Tables::new(&mut words);
+    let signer = Signer {
+        tables,
+        sk,
+        salt: *salt,
+    };
+    if !signer.prepare(mseed, work) {
         return Err(Refused::Unsatisfied);
     }
-    answer(&t, sk, msg, salt, tries, sig, work)
+    signer.answer(msg, tries, sig, work)
 }

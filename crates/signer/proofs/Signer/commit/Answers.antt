@@ -1,10 +1,9 @@
--- `signer::commit` meets its contract. Assumes nothing.
-use Rattle.std.proofs.Common.{arith, ℕ, List, length, subst, ◌≡◌, ◌∙◌}
+-- `signer::Signer::commit` meets its contract. Assumes nothing.
+use Rattle.std.proofs.Common.{arith, length, ◌≡◌, ◌∙◌}
 use Rattle.octets.proofs.Part.{part-all}
-use Rattle.signer.specs.State.{Committed}
 use Rattle.workspace.proofs.Lent.{length-after, lent-front}
 use Rattle.signer.proofs.Committing.{keys-back, keys-end, committed-start}
-use Rattle.signer.proofs.commit.Goals as goal
+use Rattle.signer.proofs.Signer.commit.Goals as goal
 
 pub put_roots-requires : goal.put_roots-requires
 put_roots-requires c =
@@ -35,6 +34,4 @@ returns-clause-adds c =
     let r = c.put_roots.ensures in
     let k = c.commit_all.ensures in
     let m = c.load.ensures ∙ part-all 16 a.mseed.now (omega arith) in
-    let z = c.load-2.ensures ∙ part-all 16 a.salt.now (omega arith) in
-    subst (λ (t : List ℕ). Committed a.mseed.now t a.x.now 17 c.commit_all.new.work) z
-    (k.adds a.mseed.now (committed-start _ _ a.mseed.now _ _ a.x.now l (omega arith) m r))
+    k.adds a.mseed.now (committed-start _ _ a.mseed.now _ _ _ l (omega arith) m r)

@@ -1,10 +1,10 @@
--- `signer::public` meets its contract. Assumes nothing.
+-- `signer::Signer::solution` meets its contract. Assumes nothing.
 use Rattle.std.proofs.Common.{arith}
 use Rattle.std.proofs.lemmas.Grind.{common_steps}
 use Rattle.octets.specs.Lists.{part}
-use Rattle.paper.specs.Keys.{public_of}
-use Rattle.signer.proofs.public.Goals as goal
+use Rattle.paper.specs.Keys.{solution_of}
+use Rattle.signer.proofs.Signer.solution.Goals as goal
 
 pub returns : goal.returns
-unfolding part public_of
+unfolding part solution_of
 returns c = grind (arith, common_steps)
