@@ -23,7 +23,7 @@ use Rattle.seeds.specs.Expanded.{plain_keys}
 use Rattle.equations.specs.Lanes.{lane, Masks}
 use Rattle.equations.specs.Put.{Put}
 use Rattle.workspace.specs.Map.{at_vectors, at_tree, at_com1, at_hashes, at_sent, at_alpha0, at_alpha1}
-use Rattle.workspace.proofs.Lent.{Lent, length-after, slice, slice_is, length-slice}
+use Rattle.workspace.proofs.Lent.{Lent, slice, slice_is}
 use Rattle.checker.specs.State.{rest_of, Placed, Evaluated, EvaluatedIn, Vectors, Recomputed, com1_of, com2_of}
 use Rattle.checker.proofs.Evaluating.{length-rest_of, evaluated-turn, evaluated-apart, evaluated-behind, committed-are}
 use Rattle.checker.proofs.Recomputing.{recomputed-turn, keys-apart, vectors-in, keys_in, recomputed-none, hashed-are}
@@ -36,9 +36,6 @@ length-hash_ls_com f = length-hash for_leaves _
 
 -- the tree's room p came back as t, and the vectors q as v
 module _ (w p t w1 q v w2 : List ℕ) (hw : length w ≡ 65536) (f : Lent at_tree 12289 w p t w1) (g : Lent at_vectors 10944 w1 q v w2) where
-  pub length-vectors : length w2 ≡ 65536
-  length-vectors = length-after g ∙ length-after f ∙ hw
-
   pub evaluated-one : (e : ℕ) (h s x : List ℕ) (r : ℕ) (w' : List ℕ) → e < 17
       → w' ≡ place (at_alpha0 + 28 * e) s (place (at_hashes + 32 * e) h w2)
       → Placed q e x r v
@@ -79,18 +76,6 @@ module _ (w p t w1 q v w2 : List ℕ) (hw : length w ≡ 65536) (f : Lent at_tre
 -- ---- what the signature has of repetition e
 
 module _ (sig : List ℕ) (e : ℕ) (hs : length sig ≡ 3484) (he : e < 17) where
-  pub length-path : length (slice (556 + 128 * e) 128 sig) ≡ 128
-  length-path = length-slice (556 + 128 * e) 128 sig (omega arith)
-
-  pub length-out : length (slice (2732 + 32 * e) 32 sig) ≡ 32
-  length-out = length-slice (2732 + 32 * e) 32 sig (omega arith)
-
-  pub length-sent : length (slice (3276 + 12 * e) 12 sig) ≡ 12
-  length-sent = length-slice (3276 + 12 * e) 12 sig (omega arith)
-
-  pub length-alpha1 : length (slice (80 + 28 * e) 28 sig) ≡ 28
-  length-alpha1 = length-slice (80 + 28 * e) 28 sig (omega arith)
-
   -- n bytes of the m that stand from o on
   in-part : (o m n : ℕ) → n * e + n ≤ m → o + m ≤ 3484 → slice (o + n * e) n sig ≡ part (n * e) n (part o m sig)
   in-part o m n h k = slice_is (o + n * e) n sig ∙ sym (part-part o m (n * e) n sig h (omega arith))
@@ -155,9 +140,6 @@ module _ (w p y w' : List ℕ) (hw : length w ≡ 65536) (f : Lent at_alpha0 476
 -- ---- com_2: the keys' room p came back as k, and the vectors q as y
 
 module _ (w p k w1 q y w2 : List ℕ) (hw : length w ≡ 65536) (f : Lent 0 18304 w p k w1) (g : Lent at_vectors 10944 w1 q y w2) where
-  pub length-masks : length w2 ≡ 65536
-  length-masks = length-after g ∙ length-after f ∙ hw
-
   both : w2 ≡ place at_vectors y (place 0 k w)
   both = g.after ∙ ap (place at_vectors y) f.after
 

@@ -17,7 +17,7 @@ use seeds::PlainKeys;
 
 // ---- BLC.Eval (algorithm 12)
 
-// u minus r alpha_1, what v_z is added to for alpha_0 (algorithm 8, lines 11 and 12).
+// u minus r alpha_1, what v_z is added to for alpha_0 (algorithm 8, lines 11 and 12). alpha_1 is a slice, as it is cut from the signature.
 fn rest_at(u: [u8; 28], alpha1: &[u8], r: u8) -> [u8; 28]
     requires { length alpha1.now ≡ 28 }
     ensures { result ≡ rest_of u alpha1.now r }

@@ -12,7 +12,7 @@ use Rattle.octets.specs.Lists.{vec, part}
 use Rattle.octets.specs.Place.{place}
 use Rattle.octets.proofs.Tab.{vec-tab}
 use Rattle.octets.proofs.Part.{vec-part}
-use Rattle.octets.proofs.Alike.{Gathered, gathered-start, gathered-turn, gathered-end}
+use Rattle.octets.proofs.Alike.{Gathered, gathered-turn, gathered-end}
 use Rattle.octets.proofs.Place.{length-place}
 use Rattle.octets.proofs.Frame.{vec-place, vec-place-before, vec-place-after}
 use Rattle.field.specs.Vec.{lifted}
@@ -158,9 +158,6 @@ pub record Sums (pk w₀ : List ℕ) (i : ℕ) (w : List ℕ) (d : ℕ) : Type 0
       → Resulted (mseed_eq_of pk) x x0 u0 u1 0 w₀
       → Resulted (mseed_eq_of pk) x x0 u0 u1 i w
   pub gathered : (x : List ℕ) (x0 v : ℕ → ℕ → ℕ) → Vectors x x0 v → Masks (part at_vectors 10944 w₀) v → Gathered (values_at (mseed_eq_of pk) x) (y_of pk) i d
-
-pub sums-start : (pk w : List ℕ) → Sums pk w 0 w 0
-sums-start pk w = record { columns = λ x x0 u0 u1 v l m r. r; gathered = λ x x0 v l m. gathered-start _ _ }
 
 pub sums-turn : (pk w₀ w w' : List ℕ) (i d r : ℕ) → length w₀ ≡ 65536 → Within 42401 952 w₀ w → Sums pk w₀ i w d → Adds pk i w r w' → Sums pk w₀ (i + 1) w' (bit_or d r)
 sums-turn pk w₀ w w' i d r h t s a = record {

@@ -1,5 +1,5 @@
 -- A buffer that changes within a part of it alone. Assumes nothing.
-use mathlib.Core.Path.{◌≡◌, refl, ◌∙◌}
+use mathlib.Core.Path.{◌≡◌, ◌∙◌}
 use mathlib.Core.List.{List}
 use Prim.Native.Nat.{ℕ, ◌+◌, ◌≤◌}
 use native.Mathlib.Omega.{arith}
@@ -9,9 +9,6 @@ use Rattle.octets.specs.Place.{place}
 use Rattle.octets.proofs.Place.{length-place}
 use Rattle.octets.proofs.Frame.{vec-place-before, vec-place-after, part_ext}
 use Rattle.signer.specs.State.{Within}
-
-pub within-refl : (a n : ℕ) (d : List ℕ) → Within a n d d
-within-refl a n d = record { size = refl; before = λ i h. refl; behind = λ i h. refl }
 
 pub within-trans : (a n : ℕ) (d e f : List ℕ) → Within a n d e → Within a n e f → Within a n d f
 within-trans a n d e f p q = record {

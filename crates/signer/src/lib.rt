@@ -154,6 +154,7 @@ fn result_one(t: &Tables, pk: &[u8; 60], work: &mut [u8; 65536], i: usize) -> u8
     z.z0[17] ^ pk[32 + i]
 }
 
+// All of them, and whether the solution satisfies each. What they give is gathered with no branch on it, since it is secret.
 fn results(t: &Tables, pk: &[u8; 60], work: &mut [u8; 65536]) -> bool
     requires { part 0 18304 work.old ≡ plain_keys }
     ensures rest { Within 42401 952 work.old work.new }
