@@ -115,15 +115,13 @@ fn hex_char(v: u8) -> u8
     if v < 10 { b'0' + v } else { b'a' + (v - 10) }
 }
 
-fn write_text(key: &[u8; KEY]) -> [u8; CELL]
-    ensures { result ≡ write_text key.now }
+fn write_text(key: &[u8; KEY], cell: &mut [u8; CELL])
+    ensures { cell.new ≡ write_text key.now }
 {
-    let mut cell = [0; CELL];
     for (i, &b) in key.iter().enumerate() {
         cell[2 * i] = hex_char(b / 16);
         cell[2 * i + 1] = hex_char(b % 16);
     }
-    cell
 }
 
 /// Writes the key cell of a public key.
@@ -137,7 +135,7 @@ pub fn write_cell(key: &[u8], out: &mut [u8]) -> Result<(), Refusal>
 {
     let key = key.as_array::<KEY>().ok_or(Refusal::Length)?;
     let out = out.as_mut_array::<CELL>().ok_or(Refusal::Length)?;
-    *out = write_text(key);
+    write_text(key, out);
     Ok(())
 }
 
