@@ -121,8 +121,8 @@ impl Tree<'_> {
     }
 
     // GGMTree.Open: the sibling path of the hidden leaf. Gives that leaf's seed.
-    pub fn open_tree(&self, path: &mut [u8], hidden: usize, r: Cols, delta: Cols) -> Cols
-        requires { (length path.old ≡ 128) × (hidden < 256) }
+    pub fn open_tree(&self, path: &mut [u8], hidden: u8, r: Cols, delta: Cols) -> Cols
+        requires { length path.old ≡ 128 }
         ensures siblings { path.new ≡ flat (tree_path_of (derive_by self.now.keys.now) 7 hidden (block_of r) (block_of delta)) }
         ensures leaf { block_of result ≡ get_or (tree_of (derive_by self.now.keys.now) 7 (block_of r) (block_of delta)) hidden [] }
     {
@@ -130,18 +130,18 @@ impl Tree<'_> {
         let (below, last) = path.split_at_mut(112);
         if hidden < 128 {
             aes::store(last, 0, o);
-            self.open_path(below, hidden, r, 7, 1)
+            self.open_path(below, hidden as usize, r, 7, 1)
         } else {
             aes::store(last, 0, r);
-            self.open_path(below, hidden - 128, o, 7, 1)
+            self.open_path(below, (hidden - 128) as usize, o, 7, 1)
         }
     }
 
     // GGMTree.PartiallyExpand: the 256 leaf seeds that the sibling path gives, zeros in the place of the hidden leaf.
-    pub fn rebuild_tree(&self, buf: &mut [u8; 4096], hidden: usize, path: &[u8])
-        requires { (length path.now ≡ 128) × (hidden < 256) }
+    pub fn rebuild_tree(&self, buf: &mut [u8; 4096], hidden: u8, path: &[u8])
+        requires { length path.now ≡ 128 }
         ensures { buf.new ≡ flat (rebuild_of (derive_by self.now.keys.now) 8 0 hidden path.now) }
     {
-        self.rebuild(buf, hidden, path, 8, 0);
+        self.rebuild(buf, hidden as usize, path, 8, 0);
     }
 }

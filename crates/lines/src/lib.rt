@@ -145,10 +145,10 @@ pub fn reveal(
     e: usize,
     r: Cols,
     x: &[u8; 28],
-    hidden: usize,
+    hidden: u8,
     path: &mut [u8],
 ) -> [u8; 32]
-    requires { (e < 17) × (hidden < 256) × (length path.old ≡ 128) }
+    requires { (e < 17) × (length path.old ≡ 128) }
     ensures { (mseed : List ℕ) → block_of r ≡ rseed mseed e → Revealed mseed (block_of salt) x.now e hidden path.new result }
 {
     let keys = seeds::tree_keys(t, salt, e);
@@ -195,9 +195,9 @@ pub fn eval(
     };
     let (leaves, rest) = room.split_first_chunk_mut::<4096>().unwrap();
     let hashed = rest.as_mut_array::<8193>().unwrap();
-    let i = hidden as usize;
-    tree.rebuild_tree(leaves, i, path);
+    tree.rebuild_tree(leaves, hidden, path);
     commit_leaves(&tree, leaves, hashed);
+    let i = hidden as usize;
     octets::put(out, hashed, 1 + 32 * i);
     let h = shake::hash32(hashed);
     let f = fold_leaves(&tree, leaves, Some(i));

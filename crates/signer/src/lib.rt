@@ -193,8 +193,8 @@ impl Signer<'_, '_> {
 
 impl Signer<'_, '_> {
     // The opening of repetition e, field by field, each in the middle of the signature (algorithm 11).
-    fn write_opening(&self, hidden: usize, work: &[u8; 65536], sig: &mut [u8; 3484], e: usize)
-        requires { (hidden < 256) × (e < 17) }
+    fn write_opening(&self, hidden: u8, work: &[u8; 65536], sig: &mut [u8; 3484], e: usize)
+        requires { e < 17 }
         ensures { (m : List ℕ) → Openable m self.now.salt (solution_of self.now.sk.now) work.now
             → sig.new ≡ opening_at m self.now.salt (solution_of self.now.sk.now) (λ k. hidden) e sig.old }
     {
@@ -213,7 +213,7 @@ impl Signer<'_, '_> {
             → sig.new ≡ openings m self.now.salt (solution_of self.now.sk.now) (hidden_in c.now) 17 sig.old }
     {
         for e in 0..17 {
-            self.write_opening(c[e] as usize, work, sig, e);
+            self.write_opening(c[e], work, sig, e);
         }
     }
 

@@ -13,6 +13,6 @@ returns c =
     let r = c.reveal-c in
     let l = lent (556 + 128 * a.e) (556 + 128 * a.e) 128 refl r.new.path a.sig.now (omega arith) r.auto.path in
     λ m g.
-    let v = (rw (c.salt_block-s.ensures, c.solution-x.ensures) at r.ensures) m (c.load-root.ensures ∙ g.roots a.e c.requires.1) in
-    opening-written m _ _ (λ k. a.hidden) a.e a.work.now a.sig.now _ _ _ _ _ _ _ c.requires.1 g l v.path-is v.out-is
+    let v = (rw (c.salt_block-s.ensures, c.solution-x.ensures) at r.ensures) m (c.load-root.ensures ∙ g.roots a.e c.requires) in
+    opening-written m _ _ (λ k. a.hidden) a.e a.work.now a.sig.now _ _ _ _ _ _ _ c.requires g l v.path-is v.out-is
     c.put.ensures (slice_is (at_sent + 12 * a.e) 12 a.work.now) c.put-2.ensures
