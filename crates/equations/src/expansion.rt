@@ -8,7 +8,7 @@ ghost use Rattle.octets.specs.Lists.{zero16};
 use aes::Cols;
 use seeds::{PlainKeys, Purpose};
 
-// seed_eq[i] (line 4).
+// seed_eq[i] (line 4). mseed is a slice: with an array of 32 the callers' proofs about two lent arrays didn't close.
 fn seed(mseed: &[u8], i: usize) -> Cols
     requires { (length mseed.now ≡ 32) × (i < 28) }
     ensures { block_of result ≡ seed_eq mseed.now i }

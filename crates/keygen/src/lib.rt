@@ -33,7 +33,7 @@ fn put_values(keys: PlainKeys, k: &[u8; 60], y: &mut [u8])
     requires { length y.old ≡ 28 }
     ensures { y.new ≡ values_at (part 28 32 k.now) (part 0 28 k.now) }
 {
-    let w = equations::monomials(&k[..28]);
+    let w = equations::monomials(k[0..28].as_array().unwrap());
     for (i, v) in y.iter_mut().enumerate() {
         *v = value_at(keys, &k[28..60], &w, i);
     }

@@ -1,7 +1,9 @@
 -- `keygen::put_values` meets its contract: before turn i the first i values stand in y. Assumes nothing.
-use Rattle.std.proofs.Common.{◌∙◌, arith}
-use Rattle.octets.specs.Lists.{part}
+use Rattle.std.proofs.Common.{◌≡◌, ap, ◌∙◌, arith}
+use Rattle.std.proofs.lemmas.Grind.{common_steps}
+use Rattle.octets.specs.Lists.{vec, part}
 use Rattle.octets.proofs.Write.{written_none, fill-turn, fill_end}
+use Rattle.paper.specs.Keys.{values_at}
 use Rattle.paper.proofs.Keys.{length-values_at}
 use Rattle.keygen.proofs.Values.{value-is}
 use Rattle.keygen.proofs.put_values.Goals as goal
@@ -14,8 +16,10 @@ unfolding part
 loop-i-preserved c =
     let l = c.loop-i in
     let k = c.args.k.now in
-    let m = length-values_at (part 28 32 k) (part 0 28 k) in
-    fill-turn _ _ _ (omega arith) (omega arith) l.invariant (c.value_at.ensures _ c.monomials-w.ensures ∙ value-is _ _ l.i (omega arith))
+    let n = length-values_at (part 28 32 k) (part 0 28 k) in
+    let x : c.unwrap.result.now ≡ part 0 28 k = grind (arith, common_steps) in
+    fill-turn _ _ _ (omega arith) (omega arith) l.invariant
+    (c.value_at.ensures _ c.monomials-w.ensures ∙ value-is _ _ l.i (omega arith) ∙ ap (λ x. vec (values_at (part 28 32 k) x) l.i) x)
 
 pub returns : goal.returns
 returns c =
