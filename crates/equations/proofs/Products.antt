@@ -72,5 +72,6 @@ module _ (m : List ℕ) (k : ℕ) (t z : List ℕ) (hk : k < 57) (v : ℕ → �
       tab-ext 24 _ _
       (λ l h.
       ap (vec z l ⊕◌)
-      (sum-⊕ 8 (λ b. bit_and (times_power b (vec t l)) (view m (192 * k) (24 * b + 17))) (λ b. bit_and (times_power b (vec t 17)) (view m (192 * k) (24 * b + l)))
+      (sum-⊕ 8 (λ b. bit_and (times_power b (vec t l)) (view m (192 * k) (24 * b + 17)))
+      (λ b. bit_and (times_power b (vec t 17)) (view m (192 * k) (24 * b + l)))
       ∙ ap₂ ◌⊕◌ (masked-product m v masks k 17 hk (omega arith) (vec t l)) (masked-product m v masks k l hk h (vec t 17))))

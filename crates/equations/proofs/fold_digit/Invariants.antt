@@ -9,4 +9,6 @@ use Rattle.equations.specs.Put.{Put}
 use Rattle.equations.proofs.fold_digit.Given as goal
 
 abbrev pub invariant-loop-l : goal.invariant-loop-l
-invariant-loop-l here = (length here.r ≡ 24) × Put here.initial.r here.l (λ i. i) (λ l. times_root 7 0x1b (vec here.initial.r l) ⊕ vec here.a (24 * here.b + l)) here.r
+invariant-loop-l here =
+    (length here.r ≡ 24)
+    × Put here.initial.r here.l (λ i. i) (λ l. times_root 7 0x1b (vec here.initial.r l) ⊕ vec here.a (24 * here.b + l)) here.r

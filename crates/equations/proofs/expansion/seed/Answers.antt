@@ -15,7 +15,8 @@ use Rattle.equations.proofs.expansion.seed.Goals as goal
 
 pub slice_bounds-xof-end : goal.slice_bounds-xof-end
 slice_bounds-xof-end c =
-    ap suc (sym (length-input _ c.args.mseed.now _ c.args.i c.copy_from_slice.ensures.after (omega arith) (c.copy_from_slice-2.ensures.after ∙ c.to_le_bytes.ensures)))
+    let b = c.copy_from_slice-2.ensures.after ∙ c.to_le_bytes.ensures in
+    ap suc (sym (length-input _ c.args.mseed.now _ c.args.i c.copy_from_slice.ensures.after (omega arith) b))
 
 pub returns : goal.returns
 unfolding seed_eq
