@@ -31,7 +31,8 @@ use Rattle.lines.proofs.Signer.{hash-standing}
 module _ (salt paths outs sents : List ℕ) (e i : ℕ) (keys : List ℕ) (held : keys ≡ tree_keys salt e) (path out d : List ℕ) (hp : length path ≡ 128)
     (hd : length d ≡ 12) (path-from : path ≡ part (128 * e) 128 paths) (out-from : out ≡ part (32 * e) 32 outs) (sent-from : d ≡ part (12 * e) 12 sents) where
   module _ (leaves text h f : List ℕ) (long : length leaves ≡ 4096) (rebuilt : leaves ≡ flat (rebuild_of (derive_by keys) 8 0 i path))
-      (lf : length f ≡ 504) (F : Folds f (raw_by keys leaves i) 256) (hashed : text ≡ hashed_of (coms_with keys leaves i out)) (hash-is : h ≡ shake128 text 32) where
+      (lf : length f ≡ 504) (F : Folds f (raw_by keys leaves i) 256)
+      (hashed : text ≡ hashed_of (coms_with keys leaves i out)) (hash-is : h ≡ shake128 text 32) where
     leaf-is : (k : ℕ) → k < 256 → leaf_at leaves k ≡ lseed_in salt paths e i k
     unfolding leaf_at lseed_in
     leaf-is k l =

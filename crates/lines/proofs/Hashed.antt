@@ -63,7 +63,8 @@ place-joined (suc n) k zero f g x h hx hi here other =
 place-joined (suc n) k (suc i) f g x h hx hi here other =
     ap (λ (o : ℕ). place o x (f 0 ++ joined n (λ e. f (suc e)))) there ∙ place-behind (f 0) x _ (k * i)
     ∙ ap₂ ◌++◌ (sym (other 0 (λ q. omega arith)))
-    (place-joined n k i (λ e. f (suc e)) (λ e. g (suc e)) x (λ e he. h (suc e) (omega arith)) hx (omega arith) here (λ e q. other (suc e) (λ r. q (omega arith))))
+    (place-joined n k i (λ e. f (suc e)) (λ e. g (suc e)) x (λ e he. h (suc e) (omega arith)) hx (omega arith) here
+    (λ e q. other (suc e) (λ r. q (omega arith))))
   where
     there : k * suc i ≡ length (f 0) + k * i
     there = omega (arith, h 0 (omega arith))
@@ -81,7 +82,8 @@ unfolding hashed_of place
 hashed-hidden keys leaves i out h next hk hl hi ho eh en =
     en ∙ ap₂ (λ (o : ℕ) (s : List ℕ). place o out s) there eh
     ∙ ap (λ (l : List ℕ). selector for_leaves ∷ l)
-    (place-joined 256 32 i (coms_by keys leaves) (coms_with keys leaves i out) out (length-com keys leaves hk hl) ho hi (if-same i out _) (λ e q. if-other e i out _ q))
+    (place-joined 256 32 i (coms_by keys leaves) (coms_with keys leaves i out) out (length-com keys leaves hk hl) ho hi
+    (if-same i out _) (λ e q. if-other e i out _ q))
   where
     there : 1 + 32 * i ≡ suc (32 * i)
     there = omega arith

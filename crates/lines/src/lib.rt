@@ -186,7 +186,8 @@ pub fn eval(
     room: &mut [u8],
 ) -> Values
     requires { (e < 17) × (length path.now ≡ 128) × (length out.now ≡ 32) × (length sent.now ≡ 12) × (length room.old ≡ 12289) }
-    ensures { (paths outs sents : List ℕ) → path.now ≡ part (128 * e) 128 paths → out.now ≡ part (32 * e) 32 outs → sent.now ≡ part (12 * e) 12 sents → Evaluated (block_of salt) paths outs sents e hidden result }
+    ensures { (paths outs sents : List ℕ) → path.now ≡ part (128 * e) 128 paths → out.now ≡ part (32 * e) 32 outs
+        → sent.now ≡ part (12 * e) 12 sents → Evaluated (block_of salt) paths outs sents e hidden result }
 {
     let keys = seeds::tree_keys(t, salt, e);
     let tree = Tree {

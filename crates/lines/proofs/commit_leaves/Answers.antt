@@ -20,4 +20,5 @@ loop-i-preserved c =
 pub returns : goal.returns
 returns c =
     let a = c.args in
-    hashed-end a.tree.now.keys.now a.leaves.now a.tree.now.keys_len (omega arith) c.loop-i.i _ _ a.hashed.now (omega arith) (omega arith) (omega arith) c.selector.ensures c.loop-i.invariant
+    hashed-end a.tree.now.keys.now a.leaves.now a.tree.now.keys_len (omega arith) c.loop-i.i _ _ a.hashed.now
+    (omega arith) (omega arith) (omega arith) c.selector.ensures c.loop-i.invariant

@@ -29,4 +29,5 @@ returns-else-hidden-lt128-clause-siblings c =
 pub returns-else-hidden-lt128-clause-leaf : goal.returns-else-hidden-lt128-clause-leaf
 returns-else-hidden-lt128-clause-leaf c =
     let a = c.args in
-    tree-leaf-right _ 7 a.hidden 128 (block_of a.r) (block_of a.delta) _ _ refl c.if-hidden-lt128.false c.bitxor-o.ensures c.open_path-else-hidden-lt128.ensures.leaf
+    tree-leaf-right _ 7 a.hidden 128 (block_of a.r) (block_of a.delta) _ _ refl c.if-hidden-lt128.false c.bitxor-o.ensures
+    c.open_path-else-hidden-lt128.ensures.leaf
