@@ -43,11 +43,23 @@ pub class-upper : (c : ℕ) → 65 ≤ c → c ≤ 70 → class_of c ≡ Upper (
 unfolding class_of
 class-upper c h k = simp (between-above 48 57 c (omega arith), between-below 97 102 c (omega arith), between_in 65 70 c h k)
 
--- what lies before the three ranges
+-- what lies before, between and after the three ranges
 
 pub class-before : (c : ℕ) → c < 48 → class_of c ≡ Other
 unfolding class_of
 class-before c h = simp (between-below 48 57 c h, between-below 97 102 c (omega arith), between-below 65 70 c (omega arith))
+
+pub class-between : (c : ℕ) → 57 < c → c < 65 → class_of c ≡ Other
+unfolding class_of
+class-between c h k = simp (between-above 48 57 c h, between-below 97 102 c (omega arith), between-below 65 70 c k)
+
+pub class-middle : (c : ℕ) → 70 < c → c < 97 → class_of c ≡ Other
+unfolding class_of
+class-middle c h k = simp (between-above 48 57 c (omega arith), between-below 97 102 c k, between-above 65 70 c h)
+
+pub class-after : (c : ℕ) → 102 < c → class_of c ≡ Other
+unfolding class_of
+class-after c h = simp (between-above 48 57 c (omega arith), between-above 97 102 c h, between-above 65 70 c (omega arith))
 
 -- ---- the classes, case by case
 

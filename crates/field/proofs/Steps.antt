@@ -20,6 +20,9 @@ mask-digit x y hx = ap (λ (m : ℕ). bit_and x (m * 255)) (and_mask y 1) ∙ go
     go (suc zero) h = and_mask x 8 ∙ mod-eq_of_lt hx ∙ sym (one-mul x)
     go (suc (suc m)) h = absurd (omega arith)
 
+pub mask_lt : (y : ℕ) → bit_and y 1 * 255 < 256
+mask_lt y = omega (arith, and_mask y 1, mod-lt y (zero-lt-suc 1))
+
 pub root-shift : (x : ℕ) → x < 256 → bit_xor (x * 2 % 256) (x / 128 * 27) ≡ times_root 7 27 x
 unfolding times_root ◌⊕◌
 root-shift x hx = ap₂ bit_xor shifted top

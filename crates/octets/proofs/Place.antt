@@ -5,7 +5,7 @@ use Prim.Native.Nat.{ℕ, zero, suc, ◌+◌, ◌≤◌}
 use native.Mathlib.Omega.{arith}
 use native.Mathlib.Nat.{zero-add, suc-add, le_of_suc-le-suc, not-suc-le-zero}
 use lib.ListN.{length, take, drop}
-use lib.Seq.{take-nil}
+use lib.Seq.{take-nil, take-append-le, length-take-le}
 use Rattle.octets.specs.Lists.{joined}
 use Rattle.octets.specs.Place.{over, place}
 use Rattle.octets.proofs.Part.{joined-suc}
@@ -89,6 +89,12 @@ pub drop-take : (m n : ℕ) (s : List ℕ) → drop m (take (m + n) s) ≡ take 
 drop-take zero n s = rw zero-add
 drop-take (suc m) n [] = rw (suc-add, take-nil)
 drop-take (suc m) n (c ∷ s) = rw suc-add (drop-take m n s)
+
+-- the front of a buffer that was written behind it
+pub front_kept : (m n : ℕ) (s y z : List ℕ) → m ≤ n → n ≤ length s → take m (take n s ++ (y ++ z)) ≡ take m (take n s)
+front_kept m n s y z h k =
+    let l : m ≤ length (take n s) = rw (length-take-le n s k) h in
+    take-append-le m (take n s) (y ++ z) l
 
 -- a turn of a loop that writes the part of repetition n behind those before it
 pub place-turn : (a : ℕ) (f : ℕ → List ℕ) (n : ℕ) (s : List ℕ) (b : ℕ) → b ≡ a + length (joined n f) → place b (f n) (place a (joined n f) s) ≡ place a (joined (suc n) f) s

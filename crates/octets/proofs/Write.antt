@@ -6,8 +6,9 @@ use Prim.Native.Nat.{ℕ, ◌+◌, ◌<◌, ◌≤◌}
 use native.Mathlib.Nat.{zero-add, add-zero}
 use native.Mathlib.Numerals.{add-one}
 use native.Mathlib.Omega.{arith}
+use borrow.Author.Count.{below_more}
 use lib.ListN.{length, set, drop_of_length-le}
-use lib.Seq.{paste, paste-zero, paste-suc, drop-paste, get_or-drop, take_all}
+use lib.Seq.{paste, paste-zero, paste-suc, drop-paste, get_or-drop, take_all, get_or-set_same, get_or-set_other}
 use Rattle.octets.specs.Lists.{vec}
 use lib.Bits.{bit_xor}
 use Rattle.octets.specs.Xor.{◌⊕◌}
@@ -46,6 +47,14 @@ fill-turn d s i {e} {x} hd hs p q =
 pub fill_end : (d s : List ℕ) (i : ℕ) {e : List ℕ} → length d ≡ length s → length d ≤ i → e ≡ written d 0 s i → e ≡ s
 unfolding written
 fill_end d s i l h p = p ∙ ap₂ ◌++◌ (take_all i s (omega arith)) (drop_of_length-le d {i = 0 + i} (omega arith)) ∙ append-nil s
+
+-- a loop that stores an element a turn, where each is known by a fact about it
+pub set_more : (P : ℕ → ℕ → Type 0) (t : List ℕ) (m v : ℕ) → m < length t → ((j : ℕ) → j < m → P j (vec t j)) → P m v
+    → (j : ℕ) → j < m + 1 → P j (vec (set t m v) j)
+set_more P t m v h all here =
+    below_more (λ (j : ℕ). P j (vec (set t m v) j)) m
+    (λ j l. subst (λ (x : ℕ). P j x) (sym (get_or-set_other t m j v 0 (λ e. omega arith))) (all j l))
+    (subst (λ (x : ℕ). P m x) (sym (get_or-set_same t m v 0 h)) here)
 
 -- before turn i the buffer d holds the first i elements of s, and what is added at i makes the next one
 pub add_turn : (d s : List ℕ) (i x : ℕ) {e : List ℕ} → i < length d → i < length s → e ≡ written d 0 s i → vec s i ≡ vec d i ⊕ x

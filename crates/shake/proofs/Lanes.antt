@@ -10,11 +10,12 @@ use Rattle.std.specs.Simd.{first_chunks}
 use lib.Pow.{pow-add}
 use lib.Seq.{set-get_or, take-add, drop-drop}
 use Rattle.octets.specs.Xor.{◌⊕◌}
-use Rattle.octets.specs.Lists.{Bytes, vec}
+use Rattle.octets.specs.Lists.{Bytes, vec, part}
+use Rattle.octets.proofs.Part.{length_part}
 use Rattle.octets.proofs.Xor.{⊕-assoc, ⊕-comm, ⊕-zero-r}
 use Rattle.shake.specs.Shake.{xor_lane, xor_byte, xor_bytes}
 use Rattle.shake.specs.Held.{number}
-use Rattle.octets.proofs.Slices.{⊕-shl, ⊕-disjoint}
+use Rattle.octets.proofs.Slices.{⊕-shl, ⊕-disjoint, part-zero, part-append}
 
 -- ---- a lane
 
@@ -110,3 +111,22 @@ block-turn a l k d f h e w =
     ∙ ap (λ (j : ℕ). xor_bytes (xor_bytes a 0 (take (8 * k) l)) j (take 8 (drop (8 * k) l))) size
     ∙ sym (xor_bytes-append (take (8 * k) l) (take 8 (drop (8 * k) l)) a 0)
     ∙ ap (xor_bytes a 0) (sym (take-add (8 * k) 8 l) ∙ ap (λ (n : ℕ). take n l) next)
+
+-- ---- lanes of a text by their place in it
+
+pub block_none : (a l : List ℕ) (i : ℕ) → a ≡ xor_bytes a 0 (part i (8 * 0) l)
+unfolding xor_bytes
+block_none a l i = sym (ap (xor_bytes a 0) (part-zero i l))
+
+pub block_more : (a l : List ℕ) (i k : ℕ) → i + 8 * k ≤ length l
+    → xor_bytes (xor_bytes a 0 (part i (8 * k) l)) (8 * k) (part (i + 8 * k) 8 l) ≡ xor_bytes a 0 (part i (8 * (k + 1)) l)
+block_more a l i k h =
+    ap (λ (j : ℕ). xor_bytes (xor_bytes a 0 (part i (8 * k) l)) j (part (i + 8 * k) 8 l)) size
+    ∙ sym (xor_bytes-append (part i (8 * k) l) (part (i + 8 * k) 8 l) a 0)
+    ∙ ap (xor_bytes a 0) (part-append i (8 * k) 8 l ∙ ap (λ (n : ℕ). part i n l) next)
+  where
+    size : 8 * k ≡ 0 + length (part i (8 * k) l)
+    size = omega (arith, length_part i (8 * k) l h)
+
+    next : 8 * k + 8 ≡ 8 * (k + 1)
+    next = omega arith
