@@ -46,7 +46,7 @@ impl Tree<'_> {
         self.derive(j - 1, s)
     }
 
-    // Expand, below the node of layer j with seed s: its 2 ^ d leaf seeds.
+    // Expand, below the node of layer j with seed s: its 2 ^ d leaf seeds. A tree may be shallower than j allows, so d is not 8 - j.
     #[tactic(auto, using(crate::proofs::Depths::depths))]
     pub fn expand(&self, buf: &mut [u8], s: Cols, d: usize, j: usize)
         requires { (length buf.old ≡ 16 * 2 ^ d) × (1 ≤ j) × (j + d ≤ 8) }

@@ -40,7 +40,7 @@ pub fn point(i: u8) -> u8
     i ^ (i / 2)
 }
 
-// SeedCommit (19) of a leaf's seed.
+// SeedCommit (19) of a leaf's seed. It and the tape are no twins: one has two blocks, the other begins with the seed and ends with half a block.
 fn commitment(tree: &Tree, s: Cols) -> [u8; 32]
     ensures { result ≡ com_by tree.now.keys.now (block_of s) }
 {
@@ -73,6 +73,7 @@ fn commit_leaves(tree: &Tree, leaves: &[u8; 4096], hashed: &mut [u8; 8193])
     ensures { hashed.new ≡ hashed_of (coms_by tree.now.keys.now leaves.now) }
 {
     hashed[0] = Purpose::Leaves.selector();
+    // By place: std has no law of what chunks zipped with chunks leave in those that are written.
     for i in 0..256 {
         let s = aes::load(leaves, 16 * i);
         let c = commitment(tree, s);
