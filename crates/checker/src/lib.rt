@@ -46,7 +46,7 @@ fn keep_values(work: &mut [u8; 65536], e: usize, h: [u8; 32], u: [u8; 28], alpha
     octets::put(&w, work, workspace::ALPHA0 + 28 * e);
 }
 
-// Lines 3 to 17 for repetition e.
+// Lines 3 to 17 for repetition e. Tables and signature are passed one by one: in a struct each reference would need its own lifetime.
 fn eval_one(t: &Tables, sig: &[u8; 3484], work: &mut [u8; 65536], hidden: u8, e: usize)
     requires { e < 17 }
     ensures { (i : ℕ → ℕ) → i e ≡ hidden → EvaluatedIn sig.now i e work.old → EvaluatedIn sig.now i (e + 1) work.new }

@@ -67,7 +67,8 @@ impl Signer<'_, '_> {
 
 // ---- BLC.Commit (algorithm 10)
 
-// rseed[e] at its place.
+// rseed[e] at its place. That the keys stand in front is a clause of each function that reads them: no type can hold it, as the same buffer
+// is written behind them.
 fn put_root(t: &Tables, work: &mut [u8; 65536], m: Cols, e: usize)
     requires { (part 0 18304 work.old ≡ plain_keys) × (e < 17) }
     ensures { work.new ≡ place (at_roots + 16 * e) (rseed (block_of m) e) work.old }
