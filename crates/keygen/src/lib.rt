@@ -40,8 +40,7 @@ fn put_values(keys: PlainKeys, k: &[u8; 60], y: &mut [u8])
 }
 
 // pk: mseed_eq, and the values (line 7).
-fn put_public(keys: PlainKeys, k: &[u8; 60], pk: &mut [u8])
-    requires { length pk.old ≡ 60 }
+fn put_public(keys: PlainKeys, k: &[u8; 60], pk: &mut [u8; 60])
     ensures { pk.new ≡ part 28 32 k.now ++ values_at (part 28 32 k.now) (part 0 28 k.now) }
 {
     let (m, y) = pk.split_at_mut(32);
@@ -50,8 +49,7 @@ fn put_public(keys: PlainKeys, k: &[u8; 60], pk: &mut [u8])
 }
 
 // sk: pk, and x (line 8).
-fn put_secret(pk: &[u8], k: &[u8; 60], sk: &mut [u8])
-    requires { (length pk.now ≡ 60) × (length sk.old ≡ 88) }
+fn put_secret(pk: &[u8; 60], k: &[u8; 60], sk: &mut [u8; 88])
     ensures { sk.new ≡ pk.now ++ part 0 28 k.now }
 {
     let (p, x) = sk.split_at_mut(60);
@@ -60,8 +58,7 @@ fn put_secret(pk: &[u8], k: &[u8; 60], sk: &mut [u8])
 }
 
 // pk and sk become those of KeyGen with this key seed. What the workspace holds afterwards is not said.
-pub fn make_keys(seed: &[u8], pk: &mut [u8], sk: &mut [u8], work: &mut [u8])
-    requires { (length seed.now ≡ 32) × (length pk.old ≡ 60) × (length sk.old ≡ 88) × (length work.old ≡ 65536) }
+pub fn make_keys(seed: &[u8; 32], pk: &mut [u8; 60], sk: &mut [u8; 88], work: &mut [u8; 65536])
     ensures public { pk.new ≡ (key_gen seed.now).pk }
     ensures secret { sk.new ≡ (key_gen seed.now).sk }
 {
