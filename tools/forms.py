@@ -63,7 +63,7 @@ def twins(files):
 
 
 def facts(files):
-    """A fact of a requires that stands in the contracts of three functions of a crate or more."""
+    """A fact of a requires that stands in the contracts of three functions or more."""
     seen = defaultdict(list)
     for path, name, clauses, _ in functions(files):
         crate = path.split("/")[1]
@@ -75,7 +75,7 @@ def facts(files):
                 fact = re.sub(r"\.(now|old)\b", "", fact)
                 seen[fact].append(f"{crate}::{name}")
     for fact, names in sorted(seen.items(), key=lambda p: -len(p[1])):
-        if len(names) >= 3 and "length" in fact or len(names) >= 3 and "Table" in fact:
+        if len(names) >= 3:
             yield f"{len(names)} times: {fact}"
 
 
@@ -90,7 +90,7 @@ def report(files):
     yield "4 copies and comparisons by hand", list(lines_with(files, r"octets::copy\(|octets::same\(|fn copy\(|fn same\("))
     yield "4 conversions and sums by name", list(lines_with(files, r"fn (from|to)_\w+\(|aes::add\(|fn add\(s: Cols"))
     yield "5 facts in three contracts or more", list(facts(files))
-    yield "6 parallel arrays, lengths beside a buffer", list(lines_with(files, r"^const (PURPOSES|LAYERS)\b|let \w+n = \w+\.n;|let \w+ = word\(|let \w*n = beside\("))
+    yield "6 parallel arrays, lengths beside a buffer", list(lines_with(files, r"^const (PURPOSES|LAYERS)\b|let \w+n = \w+\.n;|let \w+ = word\(|let \w*n = beside\(|let \w+ = rt\.arg\("))
     yield "7 tables of functions", list(lines_with(files, r"\[fn\(|match step\b"))
 
 

@@ -99,7 +99,7 @@ impl BitXor for Cols {
 }
 
 // A column of a full round: a byte of each of four columns, substituted, mixed, and the key's column added. Here and below a byte of a
-// column is a quotient and a rest, and not a place of `to_le_bytes`: the clauses say it so, and each place would take an equation more.
+// column is a quotient and a rest, as in the clauses. With `to_le_bytes` four proofs did not close but by an equation for each byte.
 fn mixed(t: &Tables, a: u32, b: u32, c: u32, d: u32, k: u32) -> u32
     ensures { bytes_of 4 result ≡ xor_b (mix_column (sbox (a % 256)) (sbox (b / 256 % 256)) (sbox (c / 65536 % 256)) (sbox (d / 16777216 % 256))) (bytes_of 4 k) }
 {
@@ -181,7 +181,7 @@ impl Tables<'_> {
         w
     }
 
-    // The block x under the expanded key w, of 176 bytes.
+    // The block x under the expanded key w, of 176 bytes: a slice, since keys lie end to end and one is cut out.
     pub fn encrypt(&self, w: &[u8], x: Cols) -> Cols
         requires { length w.now ≡ 176 }
         ensures { block_of result ≡ cipher w.now (block_of x) }

@@ -1,5 +1,6 @@
 // The checker's work in the workspace (document 001, algorithm 5): the values at the opened points, the result lines there, both commitments
 // compared.
+// The bound of an index is a clause: where a loop makes the index it is free, and a type for it would be made and opened at each call.
 #![tactic(auto)]
 
 ghost use Rattle.std.specs.Prelude.{◌≡◌, ℕ, ◌+◌, ◌*◌, ◌<◌, length};
@@ -17,7 +18,7 @@ use seeds::PlainKeys;
 
 // ---- BLC.Eval (algorithm 12)
 
-// u minus r alpha_1, what v_z is added to for alpha_0 (algorithm 8, lines 11 and 12). alpha_1 is a slice, as it is cut from the signature.
+// u minus r alpha_1, what v_z is added to for alpha_0 (algorithm 8, lines 11 and 12). alpha_1 is a slice, as it is cut out of the signature.
 fn rest_at(u: [u8; 28], alpha1: &[u8], r: u8) -> [u8; 28]
     requires { length alpha1.now ≡ 28 }
     ensures { result ≡ rest_of u alpha1.now r }
@@ -46,7 +47,8 @@ fn keep_values(work: &mut [u8; 65536], e: usize, h: [u8; 32], u: [u8; 28], alpha
     octets::put(&w, work, workspace::ALPHA0 + 28 * e);
 }
 
-// Lines 3 to 17 for repetition e. Tables and signature are passed one by one: in a struct each reference would need its own lifetime.
+// Lines 3 to 17 for repetition e. Tables, signature and key are passed one by one: three functions read the signature and three the key,
+// so a struct of them would hold what half of its methods do not read.
 fn eval_one(t: &Tables, sig: &[u8; 3484], work: &mut [u8; 65536], hidden: u8, e: usize)
     requires { e < 17 }
     ensures { (i : ℕ → ℕ) → i e ≡ hidden → EvaluatedIn sig.now i e work.old → EvaluatedIn sig.now i (e + 1) work.new }

@@ -91,7 +91,7 @@ pub fn correction(f: &[u8; 504], x: &[u8]) -> [u8; 12]
     r
 }
 
-// The correction, of which d was sent, plus x_ACC.
+// The correction, of which d was sent, plus x_ACC. d is a slice, here and below: the checker lends a part of the signature.
 fn corrected(f: &[u8; 504], d: &[u8]) -> [u8; 28]
     requires { length d.now ≡ 12 }
     ensures { result ≡ corrected_of f.now d.now }

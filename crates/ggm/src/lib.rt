@@ -1,5 +1,6 @@
 // The GGM tree routines of document 001 (2.5.3, algorithms 14 to 16) over SeedDerive, by halves: a tree is expanded from its root,
 // opened at a leaf, and rebuilt from a sibling path.
+// The bound of an index is a clause: where a loop makes the index it is free, and a type for it would be made and opened at each call.
 #![tactic(auto)]
 
 ghost use Rattle.std.specs.Prelude.{◌≡◌, [], ◌+◌, ◌-◌, ◌*◌, ◌^◌, ◌<◌, ◌≤◌, length, get_or};
@@ -120,7 +121,8 @@ impl Tree<'_> {
         self.expand(right, o, 7, 1);
     }
 
-    // GGMTree.Open: the sibling path of the hidden leaf. Gives that leaf's seed.
+    // GGMTree.Open: the sibling path of the hidden leaf. Gives that leaf's seed. The path is a slice, here and below: the signer and the checker
+    // lend a part of the signature.
     pub fn open_tree(&self, path: &mut [u8], hidden: u8, r: Cols, delta: Cols) -> Cols
         requires { length path.old ≡ 128 }
         ensures siblings { path.new ≡ flat (tree_path_of (derive_by self.now.keys.now) 7 hidden (block_of r) (block_of delta)) }

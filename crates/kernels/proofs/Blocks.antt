@@ -1,5 +1,6 @@
 -- A loop that encrypts a buffer in place: before turn i its first i blocks are done. Assumes nothing.
-use mathlib.Core.Path.{◌≡◌, sym, ap, ◌∙◌}
+use mathlib.Core.Path.{◌≡◌, sym, ap, ap₂, ◌∙◌}
+use mathlib.Core.Bool.{true, ◌&&◌}
 use mathlib.Core.List.{List}
 use Prim.Native.Nat.{ℕ, ◌+◌, ◌*◌, ◌/◌, ◌%◌, ◌≤◌}
 use native.Mathlib.Numerals.{add-one}
@@ -12,7 +13,8 @@ use Rattle.octets.proofs.Place.{place_none, place-turn, place-whole}
 use Rattle.octets.proofs.Frame.{part-after}
 use Rattle.aes.specs.Cipher.{cipher}
 use Rattle.aes.proofs.Bounds.{length-cipher}
-use Rattle.kernels.specs.Kernels.{each_block}
+use borrow.Author.Tests.{eq-eqb}
+use Rattle.kernels.specs.Kernels.{fits, each_block}
 
 -- block i of l, encrypted
 abbrev block : List ℕ → List ℕ → ℕ → List ℕ
@@ -45,3 +47,7 @@ done-turn w l i {e} {y} hw h p q =
 pub done_all : (w l : List ℕ) (i : ℕ) → length w ≡ 176 → length l % 16 ≡ 0 → i ≡ length l / 16 → done w l i ≡ each_block w l
 unfolding done each_block
 done_all w l i hw h e = ap (λ (k : ℕ). place 0 (joined k (block w l)) l) e ∙ place-whole _ l (length-blocks w l (length l / 16) hw ∙ omega arith)
+
+-- a key and a buffer that both have a length that is asked for
+pub fits_both : (k n : ℕ) → k ≡ 16 → n % 16 ≡ 0 → fits k n ≡ true
+fits_both k n e h = ap₂ ◌&&◌ (eq-eqb k 16 e) (eq-eqb (n % 16) 0 h)

@@ -14,7 +14,11 @@ use Rattle.aes.proofs.Blocks.{length-block_of}
 use Rattle.paper.specs.Commit.{leaf_com, tape}
 use Rattle.seeds.specs.Expanded.{derive_with, key_at, tree_keys}
 use Rattle.seeds.proofs.Routines.{length-derive_with, leaf_com-held, tape-held}
-use Rattle.lines.specs.Standing.{com_by, tape_by}
+use Rattle.lines.specs.Standing.{com_by, tape_by, leaf_at}
+
+pub length-leaf_at : (leaves : List ℕ) (k : ℕ) → length leaves ≡ 4096 → k < 256 → length (leaf_at leaves k) ≡ 16
+unfolding leaf_at
+length-leaf_at leaves k h l = length_part (16 * k) 16 leaves (omega arith)
 
 length-key_at : (keys : List ℕ) (k : ℕ) → length keys ≡ 2112 → k < 12 → length (key_at keys k) ≡ 176
 unfolding key_at

@@ -1,5 +1,6 @@
 // The batch line commitment (document 001, 2.5.2, algorithms 10 to 12) of one repetition: its tree is worked in a room of 12289 bytes that the
 // caller lends, of which nothing is said afterwards but its length.
+// The bound of an index is a clause: where a loop makes the index it is free, and a type for it would be made and opened at each call.
 #![tactic(auto)]
 
 ghost use Rattle.std.specs.Prelude.{◌≡◌, List, ℕ, ◌+◌, ◌*◌, ◌<◌, length, unwrap_or};
@@ -119,7 +120,8 @@ fn of_folded(hash: [u8; 32], f: &[u8; 504], x: &[u8; 28]) -> Lines
     }
 }
 
-// BLC.Commit (10), lines 4 to 15, of the repetition e with root seed r and the solution x.
+// BLC.Commit (10), lines 4 to 15, of the repetition e with root seed r and the solution x. Here and in the two below the keys are made first: a
+// `Tree` borrows them, so no function can answer it with its keys.
 pub fn commit(t: &Tables, salt: Cols, e: usize, r: Cols, x: &[u8; 28], room: &mut [u8]) -> Lines
     requires { (e < 17) × (length room.old ≡ 12289) }
     ensures { (mseed : List ℕ) → block_of r ≡ rseed mseed e → Committed mseed (block_of salt) x.now e result }

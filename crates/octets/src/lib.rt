@@ -5,7 +5,7 @@ ghost use Rattle.std.specs.Prelude.{◌≡◌, ◌+◌, ◌≤◌, length, repli
 ghost use Rattle.octets.specs.Lists.{alike};
 ghost use Rattle.octets.specs.Place.{place};
 
-// Every byte of buf is v afterwards.
+// Every byte of buf is v afterwards. Beside std's `fill`, which says it of the last element and of clones apart: here it is one fact.
 pub fn fill(buf: &mut [u8], v: u8)
     ensures { buf.new ≡ replicate (length buf.old) v }
 {
@@ -19,7 +19,7 @@ pub fn clear(buf: &mut [u8])
     fill(buf, 0);
 }
 
-// text is written into out from place at on.
+// text is written into out from place at on. Beside std's `copy_from_slice`, for the place in the clause.
 pub fn put(text: &[u8], out: &mut [u8], at: usize)
     requires { at + length text.now ≤ length out.old }
     ensures { out.new ≡ place at text.now out.old }

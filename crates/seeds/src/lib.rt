@@ -1,5 +1,6 @@
 // The seed routines of document 001 (2.5.4) over aes, and the selectors of its domain separation (2.5.5) as a table indexed by purpose.
 // A seed, a salt and a key are four columns (aes::Cols), by value; an expanded key is 176 bytes.
+// The bound of an index is a clause: where a loop makes the index it is free, and a type for it would be made and opened at each call.
 #![tactic(auto)]
 
 ghost use Rattle.std.specs.Prelude.{◌≡◌, ◌+◌, ◌*◌, ◌<◌, ◌≤◌, length};
@@ -173,8 +174,7 @@ impl PlainKeys<'_, '_> {
 
 // Key k of tree e into its place.
 fn put_tree_key(t: &Tables, salt: Cols, e: usize, k: usize, out: &mut [u8; 2112])
-    requires e_bound { (e < 17) × (k < 12) }
-    requires out_len { length out.old ≡ 2112 }
+    requires { (e < 17) × (k < 12) }
     ensures { out.new ≡ place (176 * k) (tree_key (block_of salt) e k) out.old }
 {
     let (purpose, j) = TREE_KEYS[k];

@@ -111,7 +111,7 @@ pub fn squeeze(lanes: [u64; 25], out: &mut [u8])
     ensures { out.new ≡ output lanes (length out.old) }
 {
     let mut a = lanes;
-    // `j` counts by hand: to divide each byte's place by 168 takes 1.37 times as long on a long output.
+    // A byte of a lane is a quotient, as the definition has it. `j` counts by hand: to divide each byte's place by 168 takes 1.37 times as long on a long output.
     let mut j = 0;
     for b in out.iter_mut() {
         if j == 168 {

@@ -16,7 +16,7 @@ use Rattle.seeds.specs.Expanded.{plain_keys}
 use Rattle.equations.specs.Put.{Put}
 use Rattle.workspace.specs.Map.{at_vectors, at_tree, at_hashes, at_sent, at_alpha0, at_alpha1, at_roots}
 use Rattle.signer.specs.State.{Within, Committed}
-use Rattle.workspace.proofs.Lent.{Lent}
+use Rattle.workspace.proofs.Lent.{Lent, length-after}
 use Rattle.signer.proofs.Within.{within-place, within_more, within-before, within-behind}
 use Rattle.signer.proofs.Roots.{root-at}
 
@@ -178,6 +178,9 @@ committed-none m salt x w roots = record {
 -- ---- the same, from what the code leaves: the tree's room p came back as t, and the vectors q as v
 
 module _ (w p t y q v z : List ℕ) (hw : length w ≡ 65536) (f : Lent at_tree 12289 w p t y) (g : Lent at_vectors 10944 y q v z) where
+  pub length_both : length z ≡ 65536
+  length_both = length-after g ∙ length-after f ∙ hw
+
   module _ (e : ℕ) (h u0 u1 d : List ℕ) {w' : List ℕ} (he : e < 17)
       (lh : length h ≡ 32) (l0 : length u0 ≡ 28) (l1 : length u1 ≡ 28) (ld : length d ≡ 12) (kept : w' ≡ after_lines z e h u0 u1 d) where
     after : after_lines (after_tree w t v) e h u0 u1 d ≡ w'

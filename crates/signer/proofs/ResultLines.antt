@@ -20,7 +20,7 @@ use Rattle.equations.specs.Lanes.{lane, Masks}
 use Rattle.equations.specs.Put.{Own}
 use Rattle.workspace.specs.Map.{at_vectors, at_hashes, at_sent, at_alpha0, at_alpha1, at_roots}
 use Rattle.signer.specs.State.{Within, Committed, Vectors, Resulted, AddsAll, Prepared}
-use Rattle.workspace.proofs.Lent.{Lent}
+use Rattle.workspace.proofs.Lent.{Lent, length-after}
 use Rattle.workspace.proofs.Rows.{rows_are}
 use Rattle.signer.proofs.Within.{within-place, within_more, within-before, within-behind}
 
@@ -119,6 +119,9 @@ prepared sk salt m w v y u ok hw lv ly c t r h = record {
 module _ (w p v w1 q y w2 : List ℕ) (hw : length w ≡ 65536) (g : Lent at_vectors 10944 w p v w1) (h : Lent at_vectors 10944 w1 q y w2) where
   both : w2 ≡ s2 w v y
   both = h.after ∙ ap (place at_vectors y) g.after
+
+  pub length_both : length w2 ≡ 65536
+  length_both = length-after h ∙ length-after g ∙ hw
 
   pub keys-stay : part 0 18304 w2 ≡ part 0 18304 w
   keys-stay = ap (part 0 18304) both ∙ keys_kept w v y hw g.size h.size

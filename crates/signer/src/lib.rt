@@ -1,4 +1,5 @@
 // The signer's work in the workspace (document 001, algorithm 3): commitments, result lines, the challenge, the openings.
+// The bound of an index is a clause: where a loop makes the index it is free, and a type for it would be made and opened at each call.
 #![tactic(auto)]
 
 ghost use Rattle.std.specs.Prelude.{◌≡◌, List, ◌++◌, Bool, ℕ, ◌+◌, ◌*◌, ◌<◌, ◌≤◌, length};
@@ -67,8 +68,8 @@ impl Signer<'_, '_> {
 
 // ---- BLC.Commit (algorithm 10)
 
-// rseed[e] at its place. That the keys stand in front is a clause of each function that reads them: no type can hold it, as the same buffer
-// is written behind them.
+// rseed[e] at its place. That the keys stand in front is a clause of each function that reads them. A `PlainKeys` would borrow the front for
+// the whole call: the workspace would have to be cut in two there, and the commitments take it whole.
 fn put_root(t: &Tables, work: &mut [u8; 65536], m: Cols, e: usize)
     requires { (part 0 18304 work.old ≡ plain_keys) × (e < 17) }
     ensures { work.new ≡ place (at_roots + 16 * e) (rseed (block_of m) e) work.old }

@@ -22,8 +22,8 @@ pub fn put_nonce(nonce: u32, out: &mut [u8])
 }
 
 // The input of the Fiat-Shamir hash; m is the message's hash.
-fn transcript_input(pk: &[u8], com1: &[u8], com2: &[u8], m: &[u8; 32]) -> [u8; 157]
-    requires { (length pk.now ≡ 60) × (length com1.now ≡ 32) × (length com2.now ≡ 32) }
+fn transcript_input(pk: &[u8; 60], com1: &[u8], com2: &[u8], m: &[u8; 32]) -> [u8; 157]
+    requires { (length com1.now ≡ 32) × (length com2.now ≡ 32) }
     ensures { result ≡ selector_of for_transcript ∷ (pk.now ++ com1.now ++ com2.now ++ m.now) }
 {
     let mut p = [0; 157];
@@ -35,9 +35,10 @@ fn transcript_input(pk: &[u8], com1: &[u8], com2: &[u8], m: &[u8; 32]) -> [u8; 1
     p
 }
 
-// Hash_4(pk, com1, com2, Hash_2(msg)) (algorithm 3, line 9; algorithm 5, line 4).
-pub fn fiat_shamir(pk: &[u8], com1: &[u8], com2: &[u8], msg: &[u8]) -> [u8; 32]
-    requires { (length pk.now ≡ 60) × (length com1.now ≡ 32) × (length com2.now ≡ 32) }
+// Hash_4(pk, com1, com2, Hash_2(msg)) (algorithm 3, line 9; algorithm 5, line 4). The commitments are slices: the checker cuts them out of the
+// signature.
+pub fn fiat_shamir(pk: &[u8; 60], com1: &[u8], com2: &[u8], msg: &[u8]) -> [u8; 32]
+    requires { (length com1.now ≡ 32) × (length com2.now ≡ 32) }
     ensures { result ≡ transcript_of pk.now com1.now com2.now msg.now }
 {
     let m = seeds::hash_after(Purpose::Message, msg);
@@ -66,7 +67,7 @@ pub fn sample(hash: &[u8; 32], nonce: &[u8]) -> [u8; 19]
     c
 }
 
-// Whether val, the 9 bits behind the indices, is 0 (algorithm 4, line 3).
+// Whether val, the 9 bits behind the indices, is 0 (algorithm 4, line 3). By a sum, as its definition: of the second byte one bit counts.
 pub fn passes(c: &[u8; 19]) -> bool
     ensures { result ≡ passes_of c.now }
 {

@@ -15,6 +15,12 @@ step i s h =
 with_constant : (i rc : ℕ) (s : List ℕ) {t : List ℕ} → t ≡ round rc s → rc ≡ get_or constants i 0 → t ≡ round (get_or constants i 0) s
 with_constant i rc s e f = e ∙ ap (λ (x : ℕ). round x s) f
 
+pub returns : goal.returns
+unfolding rounds constants
+returns c =
+    let e : c.loop-rc.rc-index ≡ 24 = omega arith in
+    subst (λ (k : ℕ). rounds (drop k constants) c.loop-rc.s ≡ keccak_f c.args.a.now) e c.loop-rc.invariant
+
 pub loop-rc-init : goal.loop-rc-init
 unfolding keccak_f
 loop-rc-init c = refl
@@ -25,9 +31,3 @@ loop-rc-preserved c =
     let l = c.loop-rc in
     ap (rounds (drop (l.rc-index + 1) constants)) (with_constant l.rc-index _ l.s c.round-t.ensures refl)
     ∙ step l.rc-index l.s (omega arith) ∙ l.invariant
-
-pub returns : goal.returns
-unfolding rounds constants
-returns c =
-    let e : c.loop-rc.rc-index ≡ 24 = omega arith in
-    subst (λ (k : ℕ). rounds (drop k constants) c.loop-rc.s ≡ keccak_f c.args.a.now) e c.loop-rc.invariant
