@@ -7,9 +7,11 @@ ghost use Rattle.cells.specs.Character.{class_of, is_hex, hex_value};
 ghost use Rattle.cells.specs.Cell.{all_hex, read_bytes, hex_char, write_text, CellRead, CellWritten};
 ghost use Rattle.cells.specs.Answer.{number_of, number_of_refusal};
 
-const KEY: usize = 60;
+/// The bytes of a public key.
+pub const KEY: usize = 60;
 
-const CELL: usize = 2 * KEY;
+/// The characters of its cell.
+pub const CELL: usize = 2 * KEY;
 
 /// Why a cell was not read or written. The output is untouched then.
 #[derive(Clone, Copy, Debug, PartialEq, Eq)]
@@ -35,6 +37,7 @@ impl From<Refusal> for u8 {
 }
 
 /// The number of an answer: 0 where it is done, else the refusal's.
+// mqom has one like it: the two crates know nothing of each other, and the enums are two.
 pub fn number(answer: Result<(), Refusal>) -> u8
     ensures { result ≡ number_of answer }
 {
@@ -44,7 +47,8 @@ pub fn number(answer: Result<(), Refusal>) -> u8
     }
 }
 
-// The classes of a character: 0 to 9, a to f, A to F, each with the digit's value, and anything else.
+// The classes of a character: 0 to 9, a to f, A to F, each with the digit's value, and anything else. Document 01 asks for four classes by
+// a match over byte ranges: `to_digit` would do, and name none of them.
 #[derive(Clone, Copy)]
 enum Class {
     Digit(u8),

@@ -7,7 +7,7 @@ use mqom::{MESSAGE, PUBLIC_KEY, Refusal, SIGNATURE, WORKSPACE};
 use std::rt::{Env, Files};
 
 fn run<R: Env + Files>(rt: &R) -> Result<(), Failure<Refusal>> {
-    files::expect_words(rt, 3)?;
+    files::expect_words(files::word_count(rt), 3)?;
     let mut pk = [0u8; PUBLIC_KEY + 1];
     let pk = files::read(rt, 1, &mut pk)?;
     let mut msg = [0u8; MESSAGE + 1];
@@ -19,5 +19,5 @@ fn run<R: Env + Files>(rt: &R) -> Result<(), Failure<Refusal>> {
 }
 
 fn main(rt: HostRuntime) {
-    files::print_outcome(&rt, run(&rt));
+    files::print_number(&rt, files::number(run(&rt)));
 }

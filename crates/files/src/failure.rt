@@ -1,9 +1,8 @@
 // Why a program's number is not 0.
-ghost use Rattle.std.specs.Prelude.{◌≡◌};
+ghost use Rattle.std.specs.Prelude.{◌≡◌, MatchResult};
 ghost use Rattle.files.specs.Failure.{IsNumberOf};
 ghost use Rattle.files.specs.declared.failure.Failure.TheVariants.{Input, Unwritten as NotWritten};
 
-use crate::numbers::print_number;
 use crate::writing::Unwritten;
 use std::io::Error;
 
@@ -46,7 +45,9 @@ impl<E: Into<u8>> From<Failure<E>> for u8 {
     }
 }
 
-/// Prints the number of what a program's run came to.
-pub fn print_outcome<R: Print, E: Into<u8>>(rt: &R, outcome: Result<(), Failure<E>>) {
-    print_number(rt, outcome.map_or_else(u8::from, |()| 0));
+/// The number of what a program's run came to: 0, or its failure's.
+pub fn number<E: Into<u8>>(outcome: Result<(), Failure<E>>) -> u8
+    ensures { MatchResult outcome (λ _. result ≡ 0) (λ failure. IsNumberOf E.converts failure result) }
+{
+    outcome.map_or_else(u8::from, |()| 0)
 }

@@ -8,7 +8,7 @@ mod reading;
 mod words;
 mod writing;
 
-pub use failure::{Failure, print_outcome};
+pub use failure::{Failure, number};
 pub use numbers::{low_first, print_number};
 pub use reading::{load, read};
 pub use words::{expect_words, given, word_count};

@@ -36,7 +36,8 @@ pub fn load<R: Env + Files>(rt: &R, i: usize, buf: &mut [u8]) -> Result<usize, E
     read_all(&mut file, buf)
 }
 
-/// What load read.
+/// What load read: as many bytes of buf, from its start, as load answers. The clause bounds how many: buf goes into the answer, so it has no
+/// value after the call that a clause could name, and load's answer has no name outside.
 pub fn read<'a, R: Env + Files>(rt: &R, i: usize, buf: &'a mut [u8]) -> Result<&'a [u8], Error>
     ensures { IfOk result (λ part. length part.now ≤ length buf.old) }
 {

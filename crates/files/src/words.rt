@@ -1,5 +1,5 @@
 // The words that a program is started with.
-ghost use Rattle.std.specs.Prelude.{◌≡◌, ◌+◌, eqb};
+ghost use Rattle.std.specs.Prelude.{◌≡◌, ◌+◌, eqb, is_ok};
 
 use std::env::FillError;
 use std::io::{Error, ErrorKind};
@@ -19,9 +19,11 @@ pub fn given(all: usize, n: usize) -> bool
     all.checked_sub(1) == Some(n)
 }
 
-/// An error where the program was not started with n words behind its name.
-pub fn expect_words<R: Env>(rt: &R, n: usize) -> Result<(), Error> {
-    if !given(word_count(rt), n) {
+/// An error where all words, the program's own name among them, are not that name and n more.
+pub fn expect_words(all: usize, n: usize) -> Result<(), Error>
+    ensures { is_ok result ≡ eqb all (n + 1) }
+{
+    if !given(all, n) {
         return Err(Error::from(ErrorKind::InvalidInput));
     }
     Ok(())

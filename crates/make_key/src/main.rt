@@ -8,7 +8,7 @@ use std::random::RandomSource;
 use std::rt::{Env, Files};
 
 fn run<R: Env + Files + RandomSource + Eprint>(rt: &R) -> Result<(), Failure<Refusal>> {
-    files::expect_words(rt, 3)?;
+    files::expect_words(files::word_count(rt), 3)?;
     let mut seed = [0u8; KEY_SEED + 1];
     let seed = files::read(rt, 1, &mut seed)?;
     let mut pk = [0u8; PUBLIC_KEY];
@@ -20,5 +20,5 @@ fn run<R: Env + Files + RandomSource + Eprint>(rt: &R) -> Result<(), Failure<Ref
 }
 
 fn main(rt: HostRuntime) {
-    files::print_outcome(&rt, run(&rt));
+    files::print_number(&rt, files::number(run(&rt)));
 }

@@ -7,10 +7,10 @@ use files::Failure;
 use std::rt::{Env, Files};
 
 fn run<R: Env + Files + Print>(rt: &R) -> Result<(), Failure<Refusal>> {
-    files::expect_words(rt, 1)?;
-    let mut pk = [0u8; 61];
+    files::expect_words(files::word_count(rt), 1)?;
+    let mut pk = [0u8; cells::KEY + 1];
     let pk = files::read(rt, 1, &mut pk)?;
-    let mut cell = [0u8; 120];
+    let mut cell = [0u8; cells::CELL];
     cells::write_cell(pk, &mut cell).map_err(Failure::Refused)?;
     let _ = rt.write_all(&cell);
     Ok(())

@@ -8,7 +8,7 @@ use std::random::RandomSource;
 use std::rt::{Env, Files};
 
 fn run<R: Env + Files + RandomSource + Eprint>(rt: &R) -> Result<(), Failure<Refusal>> {
-    files::expect_words(rt, 6)?;
+    files::expect_words(files::word_count(rt), 6)?;
     let mut sk = [0u8; SECRET_KEY + 1];
     let sk = files::read(rt, 1, &mut sk)?;
     let mut msg = [0u8; MESSAGE + 1];
@@ -28,5 +28,5 @@ fn run<R: Env + Files + RandomSource + Eprint>(rt: &R) -> Result<(), Failure<Ref
 }
 
 fn main(rt: HostRuntime) {
-    files::print_outcome(&rt, run(&rt));
+    files::print_number(&rt, files::number(run(&rt)));
 }
