@@ -46,7 +46,8 @@ impl fmt::Display for Shown<'_> {
     }
 }
 
-// Writes a line to standard error: argument i, a colon and the reason. Of an argument above 4,103 bytes nothing is shown.
+// Writes a line to standard error: argument i, a colon and the reason. Of an argument above 4,103 bytes nothing is shown. std's `arg` fills a
+// buffer that is lent and answers a length, here and in `same_name`: no heap is used.
 fn tell<R: Env + Eprint>(rt: &R, i: usize, reason: Error) -> Unwritten {
     let mut word = [0u8; 4103];
     let n = rt.arg(i, &mut word).unwrap_or(0);
