@@ -8,6 +8,7 @@ ghost use Rattle.std.specs.Prelude.{◌≡◌, ◌+◌, ◌≤◌, length};
 use aes::{Cols, Tables};
 use std::io;
 
+// A line of bytes, as fips202 prints one: two programs, which share no code but the library's.
 fn show(rt: &impl Print, x: &[u8]) -> io::Result<()> {
     for b in x {
         print!(rt; "{:02x}", *b)?;

@@ -121,7 +121,8 @@ fn of_folded(hash: [u8; 32], f: &[u8; 504], x: &[u8; 28]) -> Lines
 }
 
 // BLC.Commit (10), lines 4 to 15, of the repetition e with root seed r and the solution x. Here and in the two below the keys are made first: a
-// `Tree` borrows them, so no function can answer it with its keys.
+// `Tree` borrows them, so no function can answer it with its keys. Not inlined, so that the keys are on the stack only while they are used.
+#[inline(never)]
 pub fn commit(t: &Tables, salt: Cols, e: usize, r: Cols, x: &[u8; 28], room: &mut [u8]) -> Lines
     requires { (e < 17) × (length room.old ≡ 12289) }
     ensures { (mseed : List ℕ) → block_of r ≡ rseed mseed e → Committed mseed (block_of salt) x.now e result }
@@ -142,6 +143,7 @@ pub fn commit(t: &Tables, salt: Cols, e: usize, r: Cols, x: &[u8; 28], room: &mu
 }
 
 // BLC.Open (11), lines 3 and 4, of the repetition e: the sibling path of the hidden leaf into path. Gives that leaf's commitment.
+#[inline(never)]
 pub fn reveal(
     t: &Tables,
     salt: Cols,
@@ -178,6 +180,7 @@ fn at_point(hash: [u8; 32], f: &[u8; 504], d: &[u8], r: u8) -> Values
 
 // BLC.Eval (12), lines 3 to 17, of the repetition e, from its parts of an opening: the hidden leaf's sibling path, its commitment, and what was
 // sent of the correction.
+#[inline(never)]
 pub fn eval(
     t: &Tables,
     salt: Cols,
