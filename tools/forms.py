@@ -38,7 +38,7 @@ def lines_with(files, pattern):
 
 def functions(files):
     """Path, name, clauses and body of each function with a body."""
-    head = re.compile(r"^(\s*)(?:pub(?:\([a-z]+\))? )?(?:const )?(?:extern \"C\" )?fn (\w+)", re.M)
+    head = re.compile(r"^([ \t]*)(?:pub(?:\([a-z]+\))? )?(?:const )?(?:extern \"C\" )?fn (\w+)", re.M)
     for name, text in sorted(files.items()):
         for m in head.finditer(text):
             start = re.compile(rf"^{m.group(1)}\{{$|\{{$", re.M).search(text, m.end())

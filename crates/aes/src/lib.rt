@@ -99,7 +99,7 @@ impl BitXor for Cols {
 }
 
 // A column of a full round: a byte of each of four columns, substituted, mixed, and the key's column added. Here and below a byte of a
-// column is a quotient and a rest, as in the clauses. With `to_le_bytes` four proofs did not close but by an equation for each byte.
+// column is a quotient and a rest, as in the clauses, so that a proof has nothing to convert.
 fn mixed(t: &Tables, a: u32, b: u32, c: u32, d: u32, k: u32) -> u32
     ensures { bytes_of 4 result ≡ xor_b (mix_column (sbox (a % 256)) (sbox (b / 256 % 256)) (sbox (c / 65536 % 256)) (sbox (d / 16777216 % 256))) (bytes_of 4 k) }
 {
@@ -129,6 +129,7 @@ fn shifted(t: &Tables, a: u32, b: u32, c: u32, d: u32, k: u32) -> u32
     u32::from_le_bytes([x0, x1, x2, x3]) ^ k
 }
 
+// Beside last_round, which is like it but for what makes a column: a common one would call a closure four times a round.
 fn round(t: &Tables, s: Cols, k: Cols) -> Cols
     ensures { block_of result ≡ xor_b (mix_columns (shift_rows (sub_bytes (block_of s)))) (block_of k) }
 {

@@ -80,7 +80,7 @@ fn hex_value(c: u8) -> Option<u8>
     }
 }
 
-// Byte i has character 2i as its high half and character 2i + 1 as its low half.
+// Byte i has character 2i as its high half and character 2i + 1 as its low half. By place, here and in write_text: two characters to a byte.
 fn read_bytes(cell: &[u8; CELL]) -> Option<[u8; KEY]>
     ensures { MatchOption result (all_hex cell.now ≡ false) (λ key. (all_hex cell.now ≡ true) × (key ≡ read_bytes cell.now)) }
 {
@@ -111,6 +111,7 @@ pub fn read_cell(cell: &[u8], out: &mut [u8]) -> Result<(), Refusal>
     Ok(())
 }
 
+// A digit as its definition has it: 0 to 9, a to f.
 #[tactic(auto, unfolding(crate::specs::Cell::hex_char))]
 fn hex_char(v: u8) -> u8
     requires { v < 16 }

@@ -1,6 +1,6 @@
 // The checker's work in the workspace (document 001, algorithm 5): the values at the opened points, the result lines there, both commitments
 // compared.
-// The bound of an index is a clause: where a loop makes the index it is free, and a type for it would be made and opened at each call.
+// The bound of an index is a clause: a `for` over a range gives it with no proof, and a type would be made and taken apart at each call.
 #![tactic(auto)]
 
 ghost use Rattle.std.specs.Prelude.{◌≡◌, ℕ, ◌+◌, ◌*◌, ◌<◌, length};

@@ -1,4 +1,5 @@
 // ExpandEquations (algorithm 2), one packed equation at a time.
+// The bound of an index is a clause: a `for` over a range gives it with no proof, and a type would be made and taken apart at each call.
 ghost use Rattle.std.specs.Prelude.{◌≡◌, ◌<◌, length};
 ghost use Rattle.aes.specs.Words.{block_of};
 ghost use Rattle.paper.specs.Keys.{seed_eq, rows};
@@ -8,7 +9,7 @@ ghost use Rattle.octets.specs.Lists.{zero16};
 use aes::Cols;
 use seeds::{PlainKeys, Purpose};
 
-// seed_eq[i] (line 4). mseed is a slice: with an array of 32 the callers' proofs about two lent arrays didn't close.
+// seed_eq[i] (line 4). mseed is a slice: with an array of 32, `grind` stops at its limit in two callers.
 fn seed(mseed: &[u8], i: usize) -> Cols
     requires { (length mseed.now ≡ 32) × (i < 28) }
     ensures { block_of result ≡ seed_eq mseed.now i }

@@ -19,7 +19,7 @@ fn no_name(why: &str) -> Error {
     Error::new(ErrorKind::InvalidFilename, why)
 }
 
-// A name with room for what makes it a new file's.
+// A name with room for what makes it a new file's. A length beside the bytes: std's `arg` fills a buffer that is lent and answers one.
 #[derive(Drop)]
 pub(crate) struct Name {
     bytes: [u8; ROOM],

@@ -20,7 +20,7 @@ fn fed_parts(text: &[u8], k: usize) -> Sponge
     ensures { result ≡ fed text.now }
 {
     let mut s = Sponge::new();
-    // `t`, since the checker wants a call's array in a fresh local.
+    // `t`, since Rattle wants an array that a call answers in a fresh local.
     for part in text.chunks(k) {
         let t = s.absorb(part);
         s = t;
@@ -40,6 +40,7 @@ fn print_head(rt: &impl Print, call: &str, n: usize, k: usize, d: usize) -> io::
     print!(rt; "{call} {n} {k} {d} ")
 }
 
+// As fips197 prints a line of bytes: two programs, which share no code but the library's.
 fn print_bytes(rt: &impl Print, s: &[u8]) -> io::Result<()> {
     for b in s {
         print!(rt; "{:02x}", *b)?;

@@ -71,7 +71,7 @@ pub fn all_u(f: &[u8; 504]) -> [u8; 28]
     array::from_fn(|i| folded_u(f, i))
 }
 
-// u_ACC: of all shares it is u_1.
+// u_ACC: of all shares it is u_1. A copy into a new array, here and below: a part of an array is a slice, and would be made an array again.
 pub fn sum_u(f: &[u8; 504]) -> [u8; 28]
     ensures { result ≡ u_acc f.now }
 {
@@ -81,8 +81,7 @@ pub fn sum_u(f: &[u8; 504]) -> [u8; 28]
 }
 
 // The part of the correction that is sent, for the solution x.
-pub fn correction(f: &[u8; 504], x: &[u8]) -> [u8; 12]
-    requires { length x.now ≡ 28 }
+pub fn correction(f: &[u8; 504], x: &[u8; 28]) -> [u8; 12]
     ensures { result ≡ sent f.now x.now }
 {
     let mut r = [0u8; 12];

@@ -1,6 +1,6 @@
 // The GGM tree routines of document 001 (2.5.3, algorithms 14 to 16) over SeedDerive, by halves: a tree is expanded from its root,
 // opened at a leaf, and rebuilt from a sibling path.
-// The bound of an index is a clause: where a loop makes the index it is free, and a type for it would be made and opened at each call.
+// Depth and layer are bounded by clauses: j + d <= 8 ties two parameters, which a type of one can't.
 #![tactic(auto)]
 
 ghost use Rattle.std.specs.Prelude.{◌≡◌, [], ◌+◌, ◌-◌, ◌*◌, ◌^◌, ◌<◌, ◌≤◌, length, get_or};
@@ -18,6 +18,7 @@ use aes::{Cols, Tables};
 pub struct Tree<'a> {
     pub tables: Tables<'a>,
     pub keys: &'a [u8; 2112],
+    // the array's length, as a fact that other crates read
     ghost keys_len: { length keys.now ≡ 2112 },
 }
 

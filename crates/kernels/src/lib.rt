@@ -9,8 +9,8 @@ ghost use Rattle.kernels.specs.Kernels.{each_block, Encrypts, dot_or256, AddsSca
 use aes::Tables;
 
 // The blocks of buf, each under the expanded key w. By place: of what `chunks_exact_mut` lent, no clause of std says what it holds afterwards.
-fn each_block(t: &Tables, w: &[u8], buf: &mut [u8])
-    requires { (length w.now ≡ 176) × (length buf.old % 16 ≡ 0) }
+fn each_block(t: &Tables, w: &[u8; 176], buf: &mut [u8])
+    requires { length buf.old % 16 ≡ 0 }
     ensures { buf.new ≡ each_block w.now buf.old }
 {
     for i in 0..buf.len() / 16 {

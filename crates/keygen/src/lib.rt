@@ -1,4 +1,5 @@
 // KeyGen (algorithm 1), in the workspace: its first 18,304 bytes hold the expanded keys of PRG (0, 0, .).
+// The bound of an index is a clause: a `for` over a range gives it with no proof, and a type would be made and taken apart at each call.
 #![tactic(auto)]
 
 ghost use Rattle.std.specs.Prelude.{◌≡◌, ◌++◌, ℕ, ◌<◌, length};
@@ -19,7 +20,7 @@ fn draw(seed: &[u8]) -> [u8; 60]
     r
 }
 
-// The value of packed equation i at the solution whose monomials are w (line 5).
+// The value of packed equation i at the solution whose monomials are w (line 5). mseed is a slice: see equations::expansion::seed.
 fn value_at(keys: PlainKeys, mseed: &[u8], w: &[u8; 1652], i: usize) -> u8
     requires { (length mseed.now ≡ 32) × (i < 28) }
     ensures { (x : ℕ → ℕ) → Monomials x w.now → result ≡ form 56 (equation_in 56 (rows mseed.now i) 0 0) x }

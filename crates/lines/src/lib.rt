@@ -1,6 +1,6 @@
 // The batch line commitment (document 001, 2.5.2, algorithms 10 to 12) of one repetition: its tree is worked in a room of 12289 bytes that the
 // caller lends, of which nothing is said afterwards but its length.
-// The bound of an index is a clause: where a loop makes the index it is free, and a type for it would be made and opened at each call.
+// The bound of an index is a clause: a `for` over a range gives it with no proof, and a type would be made and taken apart at each call.
 #![tactic(auto)]
 
 ghost use Rattle.std.specs.Prelude.{◌≡◌, List, ℕ, ◌+◌, ◌*◌, ◌<◌, length, unwrap_or};
@@ -41,7 +41,8 @@ pub fn point(i: u8) -> u8
     i ^ (i / 2)
 }
 
-// SeedCommit (19) of a leaf's seed. It and the tape are no twins: one has two blocks, the other begins with the seed and ends with half a block.
+// SeedCommit (19) of a leaf's seed. Here and below a tree's keys go by their place in seeds::TREE_KEYS: derivation runs over them by layer, so a
+// name would be turned into the place again. It and the tape are no twins: one has two blocks, the other begins with the seed and ends with half a block.
 fn commitment(tree: &Tree, s: Cols) -> [u8; 32]
     ensures { result ≡ com_by tree.now.keys.now (block_of s) }
 {
@@ -122,6 +123,8 @@ fn of_folded(hash: [u8; 32], f: &[u8; 504], x: &[u8; 28]) -> Lines
 
 // BLC.Commit (10), lines 4 to 15, of the repetition e with root seed r and the solution x. Here and in the two below the keys are made first: a
 // `Tree` borrows them, so no function can answer it with its keys. Not inlined, so that the keys are on the stack only while they are used.
+// Room, path and the other parts are slices: the callers lend parts of the workspace and of the signature. Tables, salt and e make the keys and are
+// read no more.
 #[inline(never)]
 pub fn commit(t: &Tables, salt: Cols, e: usize, r: Cols, x: &[u8; 28], room: &mut [u8]) -> Lines
     requires { (e < 17) × (length room.old ≡ 12289) }

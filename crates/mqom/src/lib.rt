@@ -76,6 +76,7 @@ impl From<signer::Refused> for Refusal {
 }
 
 /// The number of an answer: 0 where it is Ok, else the refusal's.
+// cells has one like it: the two crates know nothing of each other, and the enums are two.
 pub fn number(answer: Result<(), Refusal>) -> u8
     ensures { result ≡ number_of_answer answer }
 {

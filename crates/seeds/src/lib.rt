@@ -1,6 +1,6 @@
 // The seed routines of document 001 (2.5.4) over aes, and the selectors of its domain separation (2.5.5) as a table indexed by purpose.
 // A seed, a salt and a key are four columns (aes::Cols), by value; an expanded key is 176 bytes.
-// The bound of an index is a clause: where a loop makes the index it is free, and a type for it would be made and opened at each call.
+// The bound of an index is a clause: a `for` over a range gives it with no proof, and a type would be made and taken apart at each call.
 #![tactic(auto)]
 
 ghost use Rattle.std.specs.Prelude.{◌≡◌, ◌+◌, ◌*◌, ◌<◌, ◌≤◌, length};
@@ -14,7 +14,7 @@ ghost use Rattle.seeds.specs.Expanded.{derive_with, key_at, plain_keys, tree_key
 
 use aes::{Cols, Tables};
 
-// Nine selectors of XOF and Hash, then four of TweakSalt.
+// Nine selectors of XOF and Hash, then four of TweakSalt. A table beside the enum: two purposes have one selector.
 const SELECTORS: [u8; 13] = [0, 1, 2, 3, 4, 5, 6, 7, 8, 0, 1, 2, 3];
 
 // What a selector is for, in the order of the table.
@@ -71,7 +71,7 @@ pub fn zero() -> Cols
     }
 }
 
-// TweakSalt (17).
+// TweakSalt (17), by a sum as its definition has it.
 pub fn tweak(salt: Cols, purpose: Purpose, e: usize, j: usize) -> Cols
     requires { (e < 64) × (j < 256) }
     ensures { block_of result ≡ tweak_salt (block_of salt) (place_of purpose) e j }

@@ -152,8 +152,8 @@ pub fn keccak_f(a: &mut [u64; 25])
     ensures { a.new ≡ keccak_f a.old }
 {
     let mut s = *a;
-    // A `for`: with a fold the proof did not close, and its closure would need a contract of its own. `t`, since the checker wants a call's
-    // array in a fresh local.
+    // A `for`: with a fold the proof did not close, and its closure would need a contract of its own. `t`, since Rattle wants an array that
+    // a call answers in a fresh local.
     for rc in RC {
         let t = round(s, rc);
         s = t;

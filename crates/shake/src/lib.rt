@@ -9,7 +9,7 @@ ghost use Rattle.shake.specs.Held.{fed, Absorbs, Finishes, PutSome};
 
 use keccak::keccak_f;
 
-// The byte b is added at byte j.
+// The byte b is added at byte j, by a shift as the definition has it.
 fn put(a: &mut [u64; 25], j: usize, b: u8)
     requires { j < 200 }
     ensures { a.new ≡ xor_byte a.old j b }
@@ -111,7 +111,8 @@ pub fn squeeze(lanes: [u64; 25], out: &mut [u8])
     ensures { out.new ≡ output lanes (length out.old) }
 {
     let mut a = lanes;
-    // A byte of a lane is a quotient, as the definition has it. `j` counts by hand: to divide each byte's place by 168 takes 1.37 times as long on a long output.
+    // A byte of a lane is a quotient, as the definition has it. `j` counts by hand: to divide each byte's place by 168 takes 1.37 times as long
+    // on a long output.
     let mut j = 0;
     for b in out.iter_mut() {
         if j == 168 {

@@ -1,5 +1,5 @@
 // The signer's work in the workspace (document 001, algorithm 3): commitments, result lines, the challenge, the openings.
-// The bound of an index is a clause: where a loop makes the index it is free, and a type for it would be made and opened at each call.
+// The bound of an index is a clause: a `for` over a range gives it with no proof, and a type would be made and taken apart at each call.
 #![tactic(auto)]
 
 ghost use Rattle.std.specs.Prelude.{◌≡◌, List, ◌++◌, Bool, ℕ, ◌+◌, ◌*◌, ◌<◌, ◌≤◌, length};
@@ -45,6 +45,7 @@ struct Challenge {
 
 impl Signer<'_, '_> {
     // Both parts of the secret key: the public key, and the solution.
+    // The two ends of one key, of two lengths: one function can't answer both types.
     fn public(&self) -> &[u8; 60]
         ensures { result.now ≡ public_of self.now.sk.now }
     {

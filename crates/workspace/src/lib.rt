@@ -1,4 +1,5 @@
 // The workspace: where things stand in it, and what signing and checking do with it alike.
+// The bound of an index is a clause: a `for` over a range gives it with no proof, and a type would be made and taken apart at each call.
 #![tactic(auto)]
 
 ghost use Rattle.std.specs.Prelude.{◌≡◌, [], ◌∷◌, ◌+◌, ◌-◌, ◌*◌, ◌<◌, ◌≤◌};
