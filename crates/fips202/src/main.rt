@@ -48,6 +48,7 @@ fn print_bytes(rt: &impl Print, s: &[u8]) -> io::Result<()> {
     println!(rt)
 }
 
+// Each kind of case below is a function of its own: it makes its output by another call, and its head says which.
 fn whole_into(rt: &impl Print, text: &[u8], out: &mut [u8]) -> io::Result<()> {
     shake::xof(text, out);
     print_head(rt, "xof", text.len(), text.len(), out.len())?;
