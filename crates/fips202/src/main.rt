@@ -14,7 +14,7 @@ fn filled() -> [u8; 512] {
     array::from_fn(|i| ((i * 7 + 3) % 256) as u8)
 }
 
-// The text, absorbed k bytes at a time.
+// The text, absorbed k bytes at a time. That k is not 0 is a clause here and below: std's `chunks` asks for it.
 fn fed_parts(text: &[u8], k: usize) -> Sponge
     requires { 0 < k }
     ensures { result ≡ fed text.now }
