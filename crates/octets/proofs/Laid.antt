@@ -47,6 +47,15 @@ from_place (suc a) x (c ∷ s) h = from_place a x s (omega arith)
 pub drop-place : (a : ℕ) (x s : List ℕ) {t : List ℕ} → t ≡ place a x s → length s ≡ a + length x → drop a t ≡ x
 drop-place a x s e h = ap (drop a) e ∙ from_place a x s h
 
+-- four elements over a list of four
+pub set-four : (s : List ℕ) (a b c d : ℕ) → length s ≡ 4 → set (set (set (set s 0 a) 1 b) 2 c) 3 d ≡ a ∷ b ∷ c ∷ d ∷ []
+set-four [] a b c d h = absurd (omega arith)
+set-four (x ∷ []) a b c d h = absurd (omega arith)
+set-four (x ∷ y ∷ []) a b c d h = absurd (omega arith)
+set-four (x ∷ y ∷ z ∷ []) a b c d h = absurd (omega arith)
+set-four (x ∷ y ∷ z ∷ w ∷ []) a b c d h = refl
+set-four (x ∷ y ∷ z ∷ w ∷ v ∷ s) a b c d h = absurd (omega arith)
+
 -- the four bytes of a number, each by one quotient
 pub bytes_of-four : (n : ℕ) → n % 256 ∷ n / 256 % 256 ∷ n / 65536 % 256 ∷ n / 16777216 % 256 ∷ [] ≡ bytes_of 4 n
 unfolding bytes_of

@@ -1,4 +1,4 @@
-// Buffers of bytes: clear, fill, put, compare.
+// Buffers of bytes: clear, fill, copy, put, compare.
 #![tactic(auto)]
 
 ghost use Rattle.std.specs.Prelude.{◌≡◌, ◌+◌, ◌≤◌, length, replicate};
@@ -19,12 +19,22 @@ pub fn clear(buf: &mut [u8])
     fill(buf, 0);
 }
 
-// text is written into out from place at on. Beside std's `copy_from_slice`, for the place in the clause.
+// dst holds src afterwards. A loop beside std's `copy_from_slice`, which between two parts of what a C caller lent would need memmove from outside.
+pub fn copy(src: &[u8], dst: &mut [u8])
+    requires { length src.now ≡ length dst.old }
+    ensures { dst.new ≡ src.now }
+{
+    for (i, d) in dst.iter_mut().enumerate() {
+        *d = src[i];
+    }
+}
+
+// text is written into out from place at on.
 pub fn put(text: &[u8], out: &mut [u8], at: usize)
     requires { at + length text.now ≤ length out.old }
     ensures { out.new ≡ place at text.now out.old }
 {
-    out[at..at + text.len()].copy_from_slice(text);
+    copy(text, &mut out[at..at + text.len()]);
 }
 
 // Whether a and b hold the same bytes. Of two that are equally long every byte is read, whatever they hold.

@@ -10,4 +10,4 @@ pub returns : goal.returns
 returns c =
     let n = length c.args.text.now in
     let e : c.args.at + n - c.args.at ≡ n = omega arith in
-    place-write c.args.at _ n _ c.args.text.now _ c.args.out.now c.copy_from_slice.ensures.after refl refl e c.requires
+    place-write c.args.at _ n _ c.args.text.now _ c.args.out.now c.copy.ensures refl refl e c.requires
