@@ -95,3 +95,7 @@ module _ (s d : ℕ) (hs : s < 256) (hd : d ≡ times_root 7 0x1b s) where
   row-column (suc (suc zero)) h hd f = made-column f refl hs (xor_of_8 s d hs hd) hd hs
   row-column (suc (suc (suc zero))) h hd f = made-column f refl hs hs (xor_of_8 s d hs hd) hd
   row-column (suc (suc (suc (suc i)))) h hd f = absurd (omega arith)
+
+  -- the column of row n, for i that is n
+  pub row-made : (i n : ℕ) {w : ℕ} → i ≡ n → n < 4 → d < 256 → w ≡ from_le_bytes w32 (row n) → bytes_of 4 w ≡ spread i s
+  row-made i n e h hd f = row-column n h hd f ∙ row-spread n h ∙ ap (λ k. spread k s) (sym e)

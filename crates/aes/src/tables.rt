@@ -31,8 +31,12 @@ fn entry(i: usize, s: u8) -> u32
 {
     let d = field::times_root(s);
     let e = s ^ d;
-    let rows = [[d, s, s, e], [e, d, s, s], [s, e, d, s], [s, s, e, d]];
-    u32::from_le_bytes(rows[i])
+    match i {
+        0 => u32::from_le_bytes([d, s, s, e]),
+        1 => u32::from_le_bytes([e, d, s, s]),
+        2 => u32::from_le_bytes([s, e, d, s]),
+        _ => u32::from_le_bytes([s, s, e, d]),
+    }
 }
 
 // Entry m of the table.
@@ -61,6 +65,13 @@ pub struct Tables<'a> {
 impl<'a> Tables<'a> {
     pub fn new(words: &'a mut [u32; 1024]) -> Tables<'a> {
         fill(words);
+        Tables { words }
+    }
+
+    // Those that words are already.
+    pub fn of(words: &'a [u32; 1024]) -> Tables<'a>
+        requires { Table words.now }
+    {
         Tables { words }
     }
 }
