@@ -15,7 +15,7 @@ use Rattle.octets.proofs.Part.{length_part}
 use Rattle.octets.proofs.Xor.{⊕-assoc, ⊕-comm, ⊕-zero-r}
 use Rattle.shake.specs.Shake.{xor_lane, xor_byte, xor_bytes}
 use Rattle.shake.specs.Held.{number}
-use Rattle.octets.proofs.Slices.{⊕-shl, ⊕-disjoint, part-zero, part-append}
+use Rattle.octets.proofs.Slices.{⊕-shl, ⊕-disjoint, part-zero, part-cons, part-append}
 
 -- ---- a lane
 
@@ -43,6 +43,11 @@ pub byte-first : (a l : List ℕ) (j : ℕ) → 0 < length l → xor_byte a j (v
 unfolding xor_bytes
 byte-first a [] j h = absurd (omega arith)
 byte-first a (b ∷ l) j h = refl
+
+-- a part of one byte
+pub byte-part : (a l : List ℕ) (j i : ℕ) → i < length l → xor_byte a j (vec l i) ≡ xor_bytes a j (part i 1 l)
+unfolding xor_bytes
+byte-part a l j i h = sym (ap (xor_bytes a j) (part-cons i 0 l h ∙ ap (λ (t : List ℕ). vec l i ∷ t) (part-zero (i + 1) l)))
 
 pub xor_bytes-zeros : (n : ℕ) (a : List ℕ) (j : ℕ) → xor_bytes a j (replicate n 0) ≡ a
 unfolding xor_bytes

@@ -8,7 +8,7 @@ use lib.ListN.{length, length-append}
 use Rattle.octets.specs.Lists.{part, joined}
 use Rattle.octets.specs.Place.{place}
 use Rattle.octets.proofs.Part.{length-joined}
-use Rattle.octets.proofs.Place.{place-extend, place-apart, place-whole, place_none, place-turn}
+use Rattle.octets.proofs.Place.{length-place, place-extend, place-apart, place-whole, place_none, place-turn}
 use Rattle.paper.specs.Commit.{path_at, lscom, sent_at, opening}
 use Rattle.paper.proofs.Commit.{length-path_at, length-lscom, length-sent}
 use Rattle.signer.specs.Written.{Openable, opening_at, openings}
@@ -45,6 +45,10 @@ module _ (m salt x : List ℕ) (i : ℕ → ℕ) where
   pub openings-start : (s : List ℕ) → s ≡ openings m salt x i 0 s
   unfolding openings joined
   openings-start s = sym (place_none 556 _ ∙ place_none 2732 _ ∙ place_none 3276 s)
+
+  pub length-openings : (n : ℕ) (s : List ℕ) → length (openings m salt x i n s) ≡ length s
+  unfolding openings
+  length-openings n s = simp length-place
 
   module _ (hm : length m ≡ 16) (hx : length x ≡ 28) (hi : (e : ℕ) → i e < 256) where
     length-paths : (n : ℕ) → n ≤ 17 → length (joined n path) ≡ n * 128
