@@ -130,7 +130,8 @@ pub fn commit(t: &Tables, salt: Cols, e: usize, r: Cols, x: &[u8; 28], room: &mu
     requires { (e < 17) × (length room.old ≡ 12289) }
     ensures { (mseed : List ℕ) → block_of r ≡ rseed mseed e → Committed mseed (block_of salt) x.now e result }
 {
-    let keys = seeds::tree_keys(t, salt, e);
+    let mut keys = [0u8; 2112];
+    seeds::write_tree_keys(t, salt, e, &mut keys);
     let tree = Tree {
         tables: *t,
         keys: &keys,
@@ -159,7 +160,8 @@ pub fn reveal(
     requires { (e < 17) × (length path.old ≡ 128) }
     ensures { (mseed : List ℕ) → block_of r ≡ rseed mseed e → Revealed mseed (block_of salt) x.now e hidden path.new result }
 {
-    let keys = seeds::tree_keys(t, salt, e);
+    let mut keys = [0u8; 2112];
+    seeds::write_tree_keys(t, salt, e, &mut keys);
     let tree = Tree {
         tables: *t,
         keys: &keys,
@@ -198,7 +200,8 @@ pub fn eval(
     ensures { (paths outs sents : List ℕ) → path.now ≡ part (128 * e) 128 paths → out.now ≡ part (32 * e) 32 outs
         → sent.now ≡ part (12 * e) 12 sents → Evaluated (block_of salt) paths outs sents e hidden result }
 {
-    let keys = seeds::tree_keys(t, salt, e);
+    let mut keys = [0u8; 2112];
+    seeds::write_tree_keys(t, salt, e, &mut keys);
     let tree = Tree {
         tables: *t,
         keys: &keys,

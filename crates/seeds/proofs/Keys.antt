@@ -104,9 +104,16 @@ below_at b [] h p k = h
 below_at b (x ∷ l) h p zero = p.0
 below_at b (x ∷ l) h p (suc k) = below_at b l h p.1 k
 
-pub small-in_code : (k : ℕ) (d : Purpose × ℕ) → k < 12 → (get_or in_code k d).1 < 256
+pub purpose-small : (k : ℕ) → vec tree_purposes k < 13
+unfolding tree_purposes Below
+purpose-small k = below_at 13 tree_purposes (lit< tt) (omega arith) k
+
+pub layer-small : (k : ℕ) → vec tree_layers k < 256
 unfolding tree_layers Below
-small-in_code k d h = subst (λ (j : ℕ). j < 256) (layer-in_code k d h) (below_at 256 tree_layers (lit< tt) (omega arith) k)
+layer-small k = below_at 256 tree_layers (lit< tt) (omega arith) k
+
+pub small-in_code : (k : ℕ) (d : Purpose × ℕ) → k < 12 → (get_or in_code k d).1 < 256
+small-in_code k d h = subst (λ (j : ℕ). j < 256) (layer-in_code k d h) (layer-small k)
 
 -- ---- a loop that writes m keys, one after the other
 

@@ -181,15 +181,23 @@ fn put_tree_key(t: &Tables, salt: Cols, e: usize, k: usize, out: &mut [u8; 2112]
     put_key(t, salt, purpose, e, j, k, out);
 }
 
-// The twelve keys of tree e.
+// The twelve keys of tree e, written to out: an array by value would be on a caller's stack three times.
+pub fn write_tree_keys(t: &Tables, salt: Cols, e: usize, out: &mut [u8; 2112])
+    requires { e < 17 }
+    ensures { out.new ≡ tree_keys (block_of salt) e }
+{
+    for k in 0..12usize {
+        put_tree_key(t, salt, e, k, out);
+    }
+}
+
+// The same, by value.
 pub fn tree_keys(t: &Tables, salt: Cols, e: usize) -> [u8; 2112]
     requires { e < 17 }
     ensures { result ≡ tree_keys (block_of salt) e }
 {
     let mut w = [0u8; 2112];
-    for k in 0..12usize {
-        put_tree_key(t, salt, e, k, &mut w);
-    }
+    write_tree_keys(t, salt, e, &mut w);
     w
 }
 

@@ -8,12 +8,12 @@ use Rattle.lines.proofs.commit.Goals as goal
 pub returns : goal.returns
 returns c =
     let a = c.args in
-    let k = c.tree_keys-keys in
+    let k = c.write_tree_keys in
     let f = c.fold_leaves-f in
     let ll : length c.expand_tree.new.buf ≡ 4096 = search rules in
     let lf : length f.result ≡ 504 = search rules in
     λ mseed from.
-    committed mseed (block_of a.salt) a.x.now a.e k.result k.ensures (block_of a.r) (block_of c.load-d.result)
+    committed mseed (block_of a.salt) a.x.now a.e k.new.out k.ensures (block_of a.r) (block_of c.load-d.result)
     (length-block_of a.r) (omega arith) from c.load-d.ensures
     c.expand_tree.new.buf c.commit_leaves.new.hashed _ f.result ll c.expand_tree.ensures lf f.ensures
     c.commit_leaves.ensures c.hash32-h.ensures _ c.of_folded.ensures

@@ -8,7 +8,7 @@ use Rattle.lines.proofs.reveal.Goals as goal
 pub returns : goal.returns
 returns c =
     let a = c.args in
-    let k = c.tree_keys-keys in
+    let k = c.write_tree_keys in
     let o = c.open_tree-s in
-    λ mseed from. revealed mseed (block_of a.salt) a.x.now a.e k.result k.ensures (block_of a.r) _ (length-block_of a.r) (omega arith) from c.load-d.ensures
+    λ mseed from. revealed mseed (block_of a.salt) a.x.now a.e k.new.out k.ensures (block_of a.r) _ (length-block_of a.r) (omega arith) from c.load-d.ensures
     a.hidden _ (block_of o.result) _ o.ensures.siblings o.ensures.leaf c.commitment.ensures
