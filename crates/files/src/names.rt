@@ -1,5 +1,5 @@
 // Names of files. std takes a path as text: a name that is not UTF-8 counts as one that can't be read or written.
-ghost use Rattle.std.specs.Prelude.{◌≤◌, IfOk};
+ghost use Rattle.std.specs.Prelude.{◌≡◌, ◌+◌, ◌≤◌, IfOk};
 ghost use Rattle.files.specs.declared.names.TheConstants.{ROOM};
 
 use std::io::{Error, ErrorKind};
@@ -46,6 +46,7 @@ impl Name {
     // This name with a dot and six small letters behind it, drawn at random.
     pub(crate) fn drawn<R: RandomSource>(&self, rt: &R) -> Result<Name, Error>
         requires { self.now.len ≤ LONGEST }
+        ensures { IfOk result (λ name. name.len ≡ self.now.len + MARK) }
     {
         let mut random = [0u8; 6];
         rt.fill_bytes(&mut random)?;

@@ -101,31 +101,31 @@ fn remove<R: Files>(rt: &R, name: &Name) {
     }
 }
 
-// Makes a new file of these bytes beside the one that argument i names, and answers its name. Where it could not be made whole no file
-// is left.
-fn make<R: Env + Files + RandomSource>(
-    rt: &R,
-    i: usize,
-    bytes: &[u8],
-    mode: u32,
-) -> Result<Name, Error> {
+// Opens a new file beside the one that argument i names, and answers its name too.
+fn open_beside<R: Env + Files + RandomSource>(rt: &R, i: usize) -> Result<(R::File, Name), Error> {
     let name = Name::of_argument(rt, i)?;
     check_free(rt, &name)?;
-    let (mut file, made) = create_beside(rt, &name)?;
-    if let Err(e) = put(&mut file, bytes, mode) {
-        remove(rt, &made);
-        return Err(e);
-    }
-    Ok(made)
+    create_beside(rt, &name)
 }
 
+// Says why the file that argument i names was not made, and then removes the new one.
+fn give_up<R: Env + Files + Eprint>(rt: &R, i: usize, made: &Name, reason: Error) -> Unwritten {
+    let unwritten = tell(rt, i, reason);
+    remove(rt, made);
+    unwritten
+}
+
+// Makes a new file of these bytes beside the one that argument i names, and answers its name. Where it could not be made whole no file
+// is left.
 fn beside<R: Env + Files + RandomSource + Eprint>(
     rt: &R,
     i: usize,
     bytes: &[u8],
     mode: u32,
 ) -> Result<Name, Unwritten> {
-    make(rt, i, bytes, mode).map_err(|e| tell(rt, i, e))
+    let (mut file, made) = open_beside(rt, i).map_err(|e| tell(rt, i, e))?;
+    put(&mut file, bytes, mode).map_err(|e| give_up(rt, i, &made, e))?;
+    Ok(made)
 }
 
 fn rename<R: Env + Files>(rt: &R, made: &Name, i: usize) -> Result<(), Error> {
@@ -137,10 +137,7 @@ fn rename<R: Env + Files>(rt: &R, made: &Name, i: usize) -> Result<(), Error> {
 fn settle<R: Env + Files + Eprint>(rt: &R, i: usize, made: &Name) -> Result<(), Unwritten>
     ensures { Storing (number_of_storing result) }
 {
-    rename(rt, made, i).map_err(|e| {
-        remove(rt, made);
-        tell(rt, i, e)
-    })
+    rename(rt, made, i).map_err(|e| give_up(rt, i, made, e))
 }
 
 /// Makes the file that argument i names hold these bytes, and be readable by all.
