@@ -10,15 +10,17 @@ use std::rt::{Env, Files};
 fn run<R: Env + Files + RandomSource + Eprint>(rt: &R) -> Result<(), Failure<Refusal>> {
     files::expect_words(files::word_count(rt), 6)?;
     let mut sk = [0u8; SECRET_KEY + 1];
-    let sk = files::read(rt, 1, &mut sk)?;
+    let sk = files::read(rt, 1, &mut sk);
     let mut msg = [0u8; MESSAGE + 1];
-    let msg = files::read(rt, 2, &mut msg)?;
+    let msg = files::read(rt, 2, &mut msg);
     let mut salt = [0u8; SALT + 1];
-    let salt = files::read(rt, 3, &mut salt)?;
+    let salt = files::read(rt, 3, &mut salt);
     let mut mseed = [0u8; MASTER_SEED + 1];
-    let mseed = files::read(rt, 4, &mut mseed)?;
+    let mseed = files::read(rt, 4, &mut mseed);
     let mut tries = [0u8; 5];
-    let tries = files::read(rt, 5, &mut tries)?;
+    let tries = files::read(rt, 5, &mut tries);
+    // Each input is read before one is refused: what writes to a pipe that is among them is not left waiting.
+    let (sk, msg, salt, mseed, tries) = (sk?, msg?, salt?, mseed?, tries?);
     let tries = files::low_first(tries.as_array().ok_or(Failure::Input)?);
     let mut sig = [0u8; SIGNATURE];
     let mut work = [0u8; WORKSPACE];
