@@ -6,14 +6,25 @@
 ghost use Rattle.std.specs.Prelude.{◌≡◌, ◌+◌, ◌≤◌, length};
 
 use aes::{Cols, Tables};
-use std::io;
+use std::{fmt, io};
 
-// A line of bytes, as fips202 prints one: two programs, which share no code but the library's.
-fn show(rt: &impl Print, x: &[u8]) -> io::Result<()> {
-    for b in x {
-        print!(rt; "{:02x}", *b)?;
+// Bytes in hexadecimal. fips202 prints its own: two programs, which share no code but the library's.
+#[derive(Drop)]
+struct Hex<'a>(&'a [u8]);
+
+impl fmt::Display for Hex<'_> {
+    fn fmt<W: fmt::Write>(&self, f: &mut fmt::Formatter<W>) -> fmt::Result {
+        for b in self.0 {
+            write!(f, "{:02x}", *b)?;
+        }
+        Ok(())
     }
-    println!(rt)
+}
+
+// A line of bytes, in one write.
+fn show(rt: &impl Print, x: &[u8]) -> io::Result<()> {
+    let hex = Hex(x);
+    println!(rt; "{hex}")
 }
 
 fn show_block(rt: &impl Print, k: Cols) -> io::Result<()> {
