@@ -23,7 +23,7 @@ pub returns-then-hidden-h-clause-siblings : goal.returns-then-hidden-h-clause-si
 returns-then-hidden-h-clause-siblings t c =
     let a = c.args in
     let k = block_of c.bitxor-r.result in
-    let p = c.store.ensures ∙ place-whole k _ (length-block_of c.bitxor-r.result ∙ omega arith) in
+    let p = c.store.ensures ∙ place-whole _ _ (length-block_of _ ∙ omega arith) in
     path-join-left _ a.d a.j a.hidden _ (block_of a.s) _ k _ _ c.if-d-eq0.false c.half-h.ensures c.if-hidden-h.true c.child-l.ensures c.bitxor-r.ensures
     c.open_path.ensures.siblings p
 
@@ -36,7 +36,7 @@ pub returns-else-hidden-h-clause-siblings : goal.returns-else-hidden-h-clause-si
 returns-else-hidden-h-clause-siblings t c =
     let a = c.args in
     let k = block_of c.child-l.result in
-    let p = c.store-else-hidden-h.ensures ∙ place-whole k _ (length-block_of c.child-l.result ∙ omega arith) in
+    let p = c.store-else-hidden-h.ensures ∙ place-whole _ _ (length-block_of _ ∙ omega arith) in
     path-join-right _ a.d a.j a.hidden _ (block_of a.s) k _ _ _ c.if-d-eq0.false c.half-h.ensures c.if-hidden-h.false c.child-l.ensures c.bitxor-r.ensures
     c.open_path-else-hidden-h.ensures.siblings p
 
