@@ -21,8 +21,8 @@ loop-l-preserved t c =
     let l = c.loop-l in (
       simp length-set l.invariant.0,
       λ f h.
-          put-add _ _ _ l.l l.z (l.invariant.1 f h) (λ k hk e. omega arith) _ (omega arith)
-          (ap (vec c.loop-b.z l.l ⊕◌) (sym (h _ _ _ _ _ c.part.ensures))),
+          put-add _ _ _ l.l l.sum (l.invariant.1 f h) (λ k hk e. omega arith) _ (omega arith)
+          (ap (vec c.loop-b.sum l.l ⊕◌) (sym (h _ _ _ _ _ c.part.ensures))),
     )
 
 pub loop-b-preserved : goal.loop-b-preserved
@@ -33,12 +33,12 @@ loop-b-preserved t c =
       l.invariant.0,
       powers-turn s.t b.x c.root.new.x b.b b.invariant.1 c.root.ensures,
       λ f h.
-          digits-turn f s.m.now s.k s.t s.z.now b.x b.z _ b.b _ refl b.invariant.1 (b.invariant.2 f h)
-          (put_all b.z 24 l.l _ l.z l.invariant.0 (omega arith) (l.invariant.1 f h)),
+          digits-turn f s.m.now s.k s.t s.z.now b.x b.sum _ b.b _ refl b.invariant.1 (b.invariant.2 f h)
+          (put_all b.sum 24 l.l _ l.sum l.invariant.0 (omega arith) (l.invariant.1 f h)),
     )
 
 pub returns : goal.returns
 returns t c =
     let b = c.loop-b in
     let s = c.args in
-    λ f h. digits-end f s.m.now s.k s.t s.z.now b.z b.b (omega arith) (b.invariant.2 f h)
+    λ f h. digits-end f s.m.now s.k s.t s.z.now b.sum b.b (omega arith) (b.invariant.2 f h)
