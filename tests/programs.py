@@ -114,6 +114,22 @@ with tempfile.TemporaryDirectory() as room:
                 write(here("other"), changed)
                 refused(program, wrong, f"{name} is {text}", words_of(program, {name: "other"}))
 
+    # Each input is read, also behind one that can't be: what writes to a pipe among them comes to its end.
+    for program, inputs in INPUTS.items():
+        for i, name in enumerate(inputs):
+            for pipe in inputs[i + 1:]:
+                os.mkfifo(here("pipe"))
+                with subprocess.Popen(["sh", "-c", f"exec cat {pipe} >pipe"], cwd=room) as writer:
+                    answer = call(program, words_of(program, {name: "missing", pipe: "pipe"}))
+                    tell(answer == ("1\n", ""), f"{program}, {name} missing, {pipe} a pipe: {answer}")
+                    try:
+                        ended = writer.wait(timeout=10) == 0
+                    except subprocess.TimeoutExpired:
+                        writer.kill()
+                        ended = False
+                    tell(ended, f"{program}, {name} missing: what writes to the pipe {pipe} is left waiting")
+                os.remove(here("pipe"))
+
     # The lowest number that applies.
     write(here("long"), bytes(65537))
     write(here("full"), bytes(65536))
